@@ -1,0 +1,9 @@
+pub mod Tile
+pub mod Link
+pub mod Chain
+pub mod Context
+pub mod Filled
+pub mod Order
+pub mod Best
+pub mod Answer
+pub mod Rows
