@@ -1,3 +1,4 @@
+pub mod TileView
 pub mod Tile
 pub mod Link
 pub mod Chain
@@ -6,4 +7,4 @@ pub mod Filled
 pub mod Order
 pub mod Best
 pub mod Answer
-pub mod Rows
+pub mod Examples
