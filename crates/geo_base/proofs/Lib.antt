@@ -1,3 +1,4 @@
+pub mod FilledFacts
 pub mod OrderLaws
 pub mod Members
 pub mod BestFacts

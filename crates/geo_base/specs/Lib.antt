@@ -3,8 +3,8 @@ pub mod Tile
 pub mod Link
 pub mod Chain
 pub mod Context
-pub mod Filled
 pub mod Order
 pub mod Best
 pub mod Answer
 pub mod Examples
+pub mod Filled

@@ -10,4 +10,6 @@ pub mod laws;
 pub mod link;
 pub mod order;
 pub mod refusal;
+#[cfg(test)]
+mod tests;
 pub mod tile;
