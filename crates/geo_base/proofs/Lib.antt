@@ -6,4 +6,5 @@ pub mod SameLinks
 pub mod ChainFacts
 pub mod ContextFacts
 pub mod AnswerFacts
+pub mod MergeFacts
 pub mod TileFacts

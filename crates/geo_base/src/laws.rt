@@ -6,7 +6,7 @@ ghost use Rattle.geo_base.specs.declared.link.Link.{Link};
 ghost use Rattle.geo_base.specs.Link.{Compat, numbers};
 ghost use Rattle.geo_base.specs.TileView.{TileView};
 ghost use Rattle.geo_base.specs.Tile.{holds};
-ghost use Rattle.geo_base.specs.Context.{IsContext, AreAlike, contexts};
+ghost use Rattle.geo_base.specs.Context.{IsContext, Agree, contexts};
 ghost use Rattle.geo_base.specs.Order.{IsBefore, context_cmp, key_of, same_target};
 ghost use Rattle.geo_base.specs.Answer.{best, IsAnswer};
 ghost use Rattle.geo_base.specs.Examples.{tile, all_compatible, usa, new_york, nyc, new_york_usa, new_york_usa_answer, nyc_usa, nyc_usa_answer, nested, nested_answer, apart, apart_answer, places, places_answer, scored, scored_answer, spread, spread_answer};
@@ -21,7 +21,7 @@ pub fn tiles_nest()
 pub fn order_is_strict_and_total()
     ensures irreflexive { (a : List Link) → IsBefore a a → ⊥ }
     ensures transitive { (a b c : List Link) → IsBefore a b → IsBefore b c → IsBefore a c }
-    ensures total { (links : List Link) → AreAlike links
+    ensures total { (links : List Link) → Agree links
         → (a b : List Link) → All (Contains links) a → All (Contains links) b
         → (a ≡ b) ⊎ (IsBefore a b ⊎ IsBefore b a) }
     ensures tied { (a b : List Link) → context_cmp a b ≡ Equal
@@ -36,10 +36,10 @@ pub fn contexts_are_listed()
 /// Over links that agree on the zoom of each layer and on the score of each feature there is exactly one answer,
 /// which is the best; order and repeats of the links play no part in it.
 pub fn answer_is_one()
-    ensures one { (compat : Compat) (links : List Link) → AreAlike links
+    ensures one { (compat : Compat) (links : List Link) → Agree links
         → (xs ys : List (List Link)) → IsAnswer compat links xs → IsAnswer compat links ys → xs ≡ ys }
-    ensures best { (compat : Compat) (links : List Link) → AreAlike links → IsAnswer compat links (best compat links) }
-    ensures members { (compat : Compat) (links others : List Link) → AreAlike links
+    ensures best { (compat : Compat) (links : List Link) → Agree links → IsAnswer compat links (best compat links) }
+    ensures members { (compat : Compat) (links others : List Link) → Agree links
         → ((l : Link) → Contains links l ↔ Contains others l) → best compat links ≡ best compat others }
 {}
 
