@@ -10,13 +10,13 @@ use crate::device::{Failed, Sink, SinkError, Source};
 use std::alloc::Global;
 use std::marker::Model;
 
-// Counts a call, and a fault where the number of the call is in the list: whether the call fails.
+// Counts a call, and says whether it fails: its number is in the list. One that fails counts as a fault too.
 fn count_call(fails: &[u64], calls: &mut u64, faults: &mut u64) -> bool
     ensures fails { IsTrue result ↔ FailsNext fails.now calls.old }
     ensures calls { calls.new ≡ raised calls.old }
     ensures fault { OnTrue result (faults.new ≡ raised faults.old) }
-    ensures later { faults.old ≤ faults.new }
     ensures no_fault { OnFalse result (faults.new ≡ faults.old) }
+    ensures later { faults.old ≤ faults.new }
 {
     *calls = calls.saturating_add(1);
     let fails = fails.contains(calls);
