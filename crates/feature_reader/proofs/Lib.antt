@@ -1,0 +1,12 @@
+mod AsciiTokens
+mod Joins
+mod SplitParts
+mod Tables
+mod TileTexts
+mod Each
+mod PlainFacts
+mod Lists
+mod Rising
+mod Words
+mod FeatureFacts
+mod Rows

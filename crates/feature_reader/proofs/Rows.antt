@@ -1,0 +1,39 @@
+-- Worked features, computed from the definitions.
+use Rattle.std.proofs.Common.{◌≡◌, refl, Ok, Err}
+use Rattle.std.specs.Prelude.{codes}
+use Rattle.std.specs.Str.{chars, is_utf8}
+use Rattle.std.specs.Char.{encode_utf8}
+use Rattle.serde_json.proofs.OnLiterals.{serde_json_on_literals}
+use Rattle.unicode_normalization.proofs.Computing.{unicode_normalization}
+use Rattle.caseless.proofs.Computing.{caseless}
+use Rattle.ucd_category.proofs.Computing.{ucd_category}
+use Rattle.feature_reader.specs.Examples.{read, new_york_text, new_york}
+use Rattle.feature_reader.specs.declared.feature.FeatureFault.TheVariants as fault
+
+pub no_id : read (codes "{\"properties\":{}}") ≡ Err fault.Id
+unfolding serde_json_on_literals chars is_utf8 encode_utf8
+no_id = refl
+
+pub large_id : read (codes "{\"id\":67108864,\"properties\":{}}") ≡ Err fault.Id
+unfolding serde_json_on_literals chars is_utf8 encode_utf8
+large_id = refl
+
+pub no_tiles : read (codes "{\"id\":1,\"properties\":{\"carmen:text\":\"a\"}}") ≡ Err fault.Zxy
+unfolding serde_json_on_literals chars is_utf8 encode_utf8
+no_tiles = refl
+
+pub other_zoom : read (codes "{\"id\":1,\"properties\":{\"carmen:text\":\"a\",\"carmen:zxy\":[\"7/0/0\"]}}") ≡ Err fault.Zoom
+unfolding serde_json_on_literals chars is_utf8 encode_utf8
+other_zoom = refl
+
+pub no_tile : read (codes "{\"id\":1,\"properties\":{\"carmen:text\":\"a\",\"carmen:zxy\":[\"6/64/0\"]}}") ≡ Err fault.Zxy
+unfolding serde_json_on_literals chars is_utf8 encode_utf8
+no_tile = refl
+
+pub unfinished : read (codes "{\"id\":1") ≡ Err fault.Json
+unfolding serde_json_on_literals chars is_utf8 encode_utf8
+unfinished = refl
+
+pub good : read new_york_text ≡ Ok new_york
+unfolding serde_json_on_literals chars is_utf8 encode_utf8 unicode_normalization caseless ucd_category
+good = refl

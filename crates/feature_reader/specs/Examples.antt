@@ -1,0 +1,23 @@
+-- Worked texts of features, for a layer of zoom 6.
+use Rattle.std.specs.Prelude.{ℕ, List, codes, [], ◌∷◌, Result}
+use Rattle.feature_reader.specs.FeatureView.{FeatureView}
+use Rattle.feature_reader.specs.Feature.{feature_of, all_languages}
+use Rattle.feature_reader.specs.declared.feature.FeatureFault.{FeatureFault}
+
+-- the feature that the text stands for at zoom 6
+abbrev pub read : List ℕ → Result FeatureView FeatureFault
+read text = feature_of 6 text
+
+-- New York, with one of its tiles listed twice
+abbrev pub new_york_text : List ℕ
+new_york_text = codes "{\"id\":7,\"properties\":{\"carmen:text\":\"New York\",\"carmen:zxy\":[\"6/33/32\",\"6/32/32\",\"6/33/32\"]}}"
+
+-- the feature that it is
+abbrev pub new_york : FeatureView
+new_york =
+    record {
+      id = 7;
+      score = 0;
+      phrases = record { text = codes "new york"; set = record { bits = all_languages }; relev = 100 } ∷ [];
+      tiles = record { z = 6; x = 32; y = 32 } ∷ record { z = 6; x = 33; y = 32 } ∷ [];
+    }

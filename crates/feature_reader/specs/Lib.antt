@@ -1,0 +1,9 @@
+pub mod Normal
+pub mod Tokens
+pub mod Numbers
+pub mod Json
+pub mod Layer
+pub mod FeatureView
+pub mod Feature
+pub mod Table
+pub mod Examples

@@ -1,0 +1,125 @@
+//! Features, and the feature that a JSON text stands for.
+
+ghost use Rattle.std.specs.Prelude.{◌≡◌, true};
+ghost use Rattle.feature_reader.specs.FeatureView.{FeatureView, IsFeature};
+
+use crate::phrase::Phrases;
+use crate::tiles::Tiles;
+use std::marker::Model;
+
+/// Why a text stands for no feature, in the order in which the faults are tried.
+#[derive(Clone, Copy, Debug, PartialEq, Eq)]
+pub enum FeatureFault {
+    /// It isn't JSON, or no object whose `properties` are an object.
+    Json,
+    /// `id` is no whole number below 2^26.
+    Id,
+    /// `carmen:text` is no string.
+    Text,
+    /// `carmen:zxy` is no list of 1 to 4,096 strings that each name a tile.
+    Zxy,
+    /// A tile has another zoom than the layer.
+    Zoom,
+}
+
+/// A feature of a layer: what it is found by, and where it lies.
+#[derive(Drop)]
+pub struct Feature {
+    id: u32,
+    score: u8,
+    phrases: Phrases,
+    tiles: Tiles,
+}
+
+impl Model for Feature {
+    ghost use Rattle.feature_reader.specs.FeatureView.{FeatureView, IsFeature};
+
+    ghost Value = { FeatureView };
+
+    ghost view = { λ f. record { id = f.id; score = f.score; phrases = f.phrases; tiles = f.tiles } };
+
+    ghost invariant = { λ f. IsFeature (record { id = f.id; score = f.score; phrases = f.phrases; tiles = f.tiles }) };
+}
+
+impl Feature {
+    /// The feature of these parts.
+    pub(crate) fn from_parts(id: u32, score: u8, phrases: Phrases, tiles: Tiles) -> Feature
+        requires { IsFeature (record { id = id; score = score; phrases = phrases; tiles = tiles }) }
+        ensures { result ≡ record { id = id; score = score; phrases = phrases; tiles = tiles } }
+    {
+        Feature {
+            id,
+            score,
+            phrases,
+            tiles,
+        }
+    }
+
+    /// The id, below 2^26.
+    pub fn id(&self) -> u32
+        ensures value { result ≡ self.now.id }
+        ensures is { IsFeature self.now }
+    {
+        self.id
+    }
+
+    /// The level of score, 0 to 15.
+    pub fn score(&self) -> u8
+        ensures value { result ≡ self.now.score }
+        ensures is { IsFeature self.now }
+    {
+        self.score
+    }
+
+    /// The phrases, each once.
+    pub fn phrases(&self) -> &Phrases
+        ensures value { result.now ≡ self.now.phrases }
+        ensures is { IsFeature self.now }
+    {
+        &self.phrases
+    }
+
+    /// The 1 to 4,096 tiles, rising by column and then row.
+    pub fn tiles(&self) -> &Tiles
+        ensures value { result.now ≡ self.now.tiles }
+        ensures is { IsFeature self.now }
+    {
+        &self.tiles
+    }
+}
+
+impl Feature {
+    ghost use Rattle.std.specs.Prelude.{IfOk};
+
+    /// An equal feature.
+    pub fn copy(&self) -> Result<Feature, geo_base::refusal::Memory>
+        ensures { IfOk result (λ f. f ≡ self.now) }
+    {
+        Ok(Feature {
+            id: self.id,
+            score: self.score,
+            phrases: self.phrases.copy()?,
+            tiles: self.tiles.copy()?,
+        })
+    }
+}
+
+#[cfg(test)]
+pub mod examples {
+    use super::*;
+    use geo_base::refusal::Memory;
+    use geo_base::tile::Tile;
+    use std::alloc::Global;
+
+    /// A feature with this id, modulo 2^26, and the one tile.
+    pub fn feature_at(alloc: Global, id: u32, tile: Tile) -> Result<Feature, Memory> {
+        let mut tiles = Tiles::new(alloc);
+        tiles.push(tile)?;
+        Ok(Feature {
+            id: id % 67_108_864,
+            score: 0,
+            phrases: Phrases::new(alloc),
+            tiles,
+        })
+    }
+}

@@ -1,0 +1,93 @@
+//! Which values ask for nothing but one phrase of ASCII.
+
+ghost use Rattle.std.specs.Prelude.{◌≡◌, IsAscii, Some, option_and_then, codes, length, not};
+ghost use Rattle.std.specs.Char.{is_ascii_alphanumeric};
+ghost use Rattle.serde_json.specs.Find.{as_str, as_object};
+ghost use Rattle.serde_json.specs.View.{view, members_view};
+ghost use Rattle.feature_reader.specs.Feature.{is_plain, are_plain, is_plain_name, is_plain_text, has_plain_members};
+ghost use Rattle.feature_reader.specs.Json.{member};
+ghost use Rattle.feature_reader.specs.Tokens.{tokens_of};
+
+use serde_json::Value;
+use serde_json::value::Map;
+
+/// Whether the feature that the value stands for has one phrase of ASCII and neither score nor
+/// relevance: of its properties no member is `carmen:score` or `carmen:relev`, none begins with
+/// `carmen:text_`, and `carmen:text`, where it is a string, is ASCII without a comma and has 1 to
+/// 20 tokens. A value without properties asks for nothing, so it is plain.
+pub fn is_plain(value: &Value) -> bool
+    ensures { result ≡ is_plain (view value.now) }
+{
+    match value.get("properties") {
+        Some(properties) => are_plain(properties),
+        None => true,
+    }
+}
+
+/// The properties, where they are an object, ask for nothing but one phrase of ASCII.
+fn are_plain(properties: &Value) -> bool
+    ensures { result ≡ are_plain (as_object (view properties.now)) }
+{
+    match properties.as_object() {
+        Some(members) => has_plain_members(members) && has_plain_text(properties),
+        None => true,
+    }
+}
+
+/// The text of these properties, where they have one, is plain.
+fn has_plain_text(properties: &Value) -> bool
+    ensures { result ≡ is_plain_text (option_and_then as_str (member (codes "carmen:text") (view properties.now))) }
+{
+    match properties.get("carmen:text").and_then(Value::as_str) {
+        Some(text) => is_plain_text(text),
+        None => true,
+    }
+}
+
+/// No member is a score, a relevance or a text in a language.
+fn has_plain_members(members: &Map<String, Value>) -> bool
+    ensures { result ≡ has_plain_members (members_view members.now.entries) }
+{
+    members.keys().all(|name| is_plain_name(name.as_str()))
+}
+
+/// The name is not that of a score, of a relevance or of a text in a language.
+fn is_plain_name(name: &str) -> bool
+    ensures { result ≡ is_plain_name name.now }
+{
+    !(name == "carmen:score"
+        || name == "carmen:relev"
+        || name.as_bytes().starts_with(b"carmen:text_"))
+}
+
+/// The text is ASCII without a comma and has 1 to 20 tokens.
+fn is_plain_text(text: &str) -> bool
+    ensures { result ≡ is_plain_text (Some text.now) }
+{
+    if !text.is_ascii() {
+        return false;
+    }
+    if text.as_bytes().contains(&b',') {
+        return false;
+    }
+    let tokens = token_count(text);
+    1 <= tokens && tokens <= 20
+}
+
+/// The number of tokens of an ASCII text.
+fn token_count(text: &str) -> usize
+    requires { IsAscii text.now }
+    ensures { result ≡ length (tokens_of text.now) }
+{
+    text.as_bytes()
+        .split(ends_token)
+        .filter(|part| !part.is_empty())
+        .count()
+}
+
+/// The byte is neither a letter nor a digit.
+fn ends_token(b: &u8) -> bool
+    ensures { result ≡ not (is_ascii_alphanumeric b.now) }
+{
+    !b.is_ascii_alphanumeric()
+}

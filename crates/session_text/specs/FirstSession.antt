@@ -1,0 +1,119 @@
+-- Which bytes are a session, and its layer and lines: the bytes of each line are fixed but for names, numbers, features and texts.
+use Rattle.std.specs.Prelude.{ℕ, ◌+◌, ◌-◌, Bool, true, false, List, [], ◌∷◌, ◌++◌, ◌&&◌, ◌==◌, nat_lt, nat_le, length, take, drop, codes, decimal, bytes_eq, count_by, if◌then◌else◌, Option, Some, None, option_and_then, option_map, unwrap_or, Ok, Err}
+use Rattle.std.specs.List.{slice_split, before_first}
+use Rattle.serde_json.specs.Data.{Data}
+use Rattle.feature_reader.specs.Numbers.{number_of}
+use Rattle.feature_reader.specs.Tokens.{is_ascii}
+use Rattle.feature_reader.specs.Json.{data_of, each_of}
+use Rattle.feature_reader.specs.FeatureView.{FeatureView}
+use Rattle.feature_reader.specs.Feature.{is_plain, feature_of_data}
+use Rattle.feature_reader.specs.Layer.{LayerView, is_name}
+use Rattle.session_text.specs.Query.{query_of}
+use Rattle.session_text.specs.declared.body.BodyLine.{BodyLine}
+use Rattle.session_text.specs.declared.body.BodyLine.TheVariants.{Put, Publish, Ask}
+
+-- the last of some lines, and those before it
+abbrev pub last : List (List ℕ) → List ℕ
+last [] = []
+last (x ∷ []) = x
+last (x ∷ y ∷ ys) = last (y ∷ ys)
+
+abbrev pub front : List (List ℕ) → List (List ℕ)
+front [] = []
+front (x ∷ []) = []
+front (x ∷ y ∷ ys) = x ∷ front (y ∷ ys)
+
+-- the bytes without the line feed at their end, where one stands there
+abbrev pub without_feed : List ℕ → List ℕ
+without_feed bytes = if bytes_eq (drop (length bytes - 1) bytes) (codes "\n") then take (length bytes - 1) bytes else bytes
+
+-- the parts between line feeds
+abbrev pub parts : List ℕ → List (List ℕ)
+parts bytes = slice_split (λ b. b == 10) bytes
+
+-- the lines of the bytes, of which only the last may lack its line feed
+abbrev pub all_lines : List ℕ → List (List ℕ)
+all_lines bytes = parts (without_feed bytes)
+
+-- `layer {"name":"NAME","zoom":Z}`
+abbrev pub layer_line : List ℕ → ℕ → List ℕ
+layer_line name zoom = codes "layer {\"name\":\"" ++ name ++ codes "\",\"zoom\":" ++ decimal zoom ++ codes "}"
+
+-- where the line of a layer has its name, and after it its zoom; 17 where there is no number
+abbrev pub name_in : List ℕ → List ℕ
+name_in line = before_first (λ b. b == 34) (drop 15 line)
+
+abbrev pub zoom_in : List ℕ → ℕ
+zoom_in line = unwrap_or (number_of (before_first (λ b. b == 125) (drop (length (name_in line) + 24) line))) 17
+
+-- the layer that the line spells: a name, and a zoom of at most 16 without leading zeros
+abbrev pub first_layer : List ℕ → Option LayerView
+first_layer line =
+    let name = name_in line in
+    let zoom = zoom_in line in
+    if is_name name && (nat_le zoom 16 && bytes_eq line (layer_line name zoom)) then Some (record { name = name; zoom = zoom }) else None
+
+-- the feature that plain data stands for
+abbrev pub plain_feature : ℕ → Data → Option FeatureView
+plain_feature zoom d = if is_plain d then elim (feature_of_data zoom d) [ Ok f ↦ Some f | Err fault ↦ None ] else None
+
+-- `put 0 JSON`, of ASCII
+abbrev pub first_put : ℕ → List ℕ → Option BodyLine
+first_put zoom line =
+    if bytes_eq (take 6 line) (codes "put 0 ") && is_ascii (drop 6 line)
+    then option_and_then (λ d. option_map (λ f. Put 0 f) (plain_feature zoom d)) (data_of (drop 6 line))
+    else None
+
+-- the query is read
+abbrev pub is_readable : List ℕ → Bool
+is_readable text = elim (query_of text) [ Ok q ↦ true | Err fault ↦ false ]
+
+-- `ask 0 QUERY`, of ASCII
+abbrev pub first_ask : List ℕ → Option BodyLine
+first_ask line =
+    if bytes_eq (take 6 line) (codes "ask 0 ") && (is_ascii (drop 6 line) && is_readable (drop 6 line)) then Some (Ask 0 (drop 6 line)) else None
+
+-- a line of the body: a publication, an ask or a put
+abbrev pub first_line : ℕ → List ℕ → Option BodyLine
+first_line zoom line =
+    if bytes_eq line (codes "publish") then Some Publish
+    else if bytes_eq (take 4 line) (codes "ask ") then first_ask line
+    else first_put zoom line
+
+abbrev pub is_put : BodyLine → Bool
+is_put (Put layer f) = true
+is_put line = false
+
+abbrev pub is_publish : BodyLine → Bool
+is_publish Publish = true
+is_publish line = false
+
+abbrev pub is_ask : BodyLine → Bool
+is_ask (Ask lane text) = true
+is_ask line = false
+
+-- at most 16 puts, one publication and 4,096 asks
+abbrev pub are_few : List BodyLine → Bool
+are_few lines = nat_le (count_by is_put lines) 16 && (nat_le (count_by is_publish lines) 1 && nat_le (count_by is_ask lines) 4096)
+
+-- the body that stands before the last line, which is `end`
+abbrev pub first_body : ℕ → List (List ℕ) → Option (List BodyLine)
+first_body zoom lines = if bytes_eq (last lines) (codes "end") then each_of (first_line zoom) (front lines) else None
+
+-- a layer and its body, which isn't too long
+abbrev pub with_body : LayerView → List BodyLine → Option (LayerView × List BodyLine)
+with_body layer body = if are_few body then Some (layer, body) else None
+
+-- the first line is `carmen 1`, the second the layer, and the others are the body
+abbrev pub first_lines : List (List ℕ) → Option (LayerView × List BodyLine)
+first_lines (title ∷ second ∷ lines) =
+    if bytes_eq title (codes "carmen 1") then option_and_then (λ layer. option_and_then (with_body layer) (first_body layer.zoom lines)) (first_layer second) else None
+first_lines lines = None
+
+-- fewer bytes than this are a session
+abbrev pub most_bytes : ℕ
+most_bytes = 1048576
+
+-- the layer and the body of an accepted session
+abbrev pub first_session : List ℕ → Option (LayerView × List BodyLine)
+first_session bytes = if nat_lt (length bytes) most_bytes then first_lines (all_lines bytes) else None

@@ -1,0 +1,57 @@
+-- Replies and the lines of a session's output, as text.
+use Rattle.std.specs.Prelude.{ℕ, ◌*◌, List, ◌++◌, length, codes, decimal, flat_map, sum_by}
+use Rattle.geo_base.specs.TileView.{TileView}
+use Rattle.geo_base.specs.declared.link.Link.{Link}
+use Rattle.geo_base.specs.Order.{target_score}
+use Rattle.feature_reader.specs.declared.table.Taken.{Taken}
+use Rattle.feature_reader.specs.declared.table.Taken.TheVariants.{New, Changed}
+use Rattle.session_text.specs.declared.query.QueryFault.{QueryFault}
+use Rattle.session_text.specs.declared.query.QueryFault.TheVariants.{WrongOption, Long, Empty, Tokens}
+use Rattle.session_text.specs.declared.reply.Reply.{Reply}
+use Rattle.session_text.specs.declared.reply.Reply.TheVariants.{Found, Unreadable, Memory}
+
+-- `@Z/X/Y`
+abbrev pub tile_text : TileView → List ℕ
+tile_text t = codes "@" ++ decimal t.z ++ codes "/" ++ decimal t.x ++ codes "/" ++ decimal t.y
+
+-- ` LAYER:ID@Z/X/Y[FROM,TO)=VALUE`
+abbrev pub link_text : Link → List ℕ
+link_text l =
+    codes " " ++ decimal l.layer ++ codes ":" ++ decimal l.id ++ tile_text l.tile
+    ++ codes "[" ++ decimal l.from ++ codes "," ++ decimal l.to ++ codes ")=" ++ decimal l.value
+
+-- `context R/T score S`, and the links from deep to shallow: R is the sum of the values, T the most that so many tokens can have, S the target's score
+abbrev pub context_text : ℕ → List Link → List ℕ
+context_text tokens links =
+    codes "context " ++ decimal (sum_by (λ l. l.value) links) ++ codes "/" ++ decimal (10000 * tokens) ++ codes " score " ++ decimal (target_score links) ++ flat_map link_text links ++ codes "\n"
+
+-- the number and the name of a fault
+abbrev pub fault_text : QueryFault → List ℕ
+fault_text WrongOption = codes "1 Option"
+fault_text Long = codes "3 Long"
+fault_text Empty = codes "4 Empty"
+fault_text Tokens = codes "5 Tokens"
+
+-- the text of a reply, with a line for each context
+abbrev pub reply_text : Reply → List ℕ
+reply_text (Found generation answer) =
+    codes "gen " ++ decimal generation ++ codes " found " ++ decimal (length answer.contexts) ++ codes "\n" ++ flat_map (context_text answer.tokens) answer.contexts
+reply_text (Unreadable fault) = codes "unreadable " ++ fault_text fault ++ codes "\n"
+reply_text Memory = codes "memory\n"
+
+-- the text of an ask: its lane, its place among the lane's asks, and the reply
+abbrev pub ask_text : ℕ → ℕ → Reply → List ℕ
+ask_text lane place reply = codes "ask " ++ decimal lane ++ codes " " ++ decimal place ++ codes " " ++ reply_text reply
+
+-- what a put answers, in a word
+abbrev pub taken_word : Taken → List ℕ
+taken_word New = codes "new"
+taken_word Changed = codes "changed"
+
+-- the text of a put: its layer, its feature, and what it answers
+abbrev pub put_text : ℕ → ℕ → Taken → List ℕ
+put_text layer id taken = codes "put " ++ decimal layer ++ codes " " ++ decimal id ++ codes " " ++ taken_word taken ++ codes "\n"
+
+-- the text of a publication: its number
+abbrev pub published_text : ℕ → List ℕ
+published_text number = codes "published " ++ decimal number ++ codes "\n"

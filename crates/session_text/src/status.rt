@@ -1,0 +1,111 @@
+//! How a session ends.
+
+ghost use Rattle.std.specs.Prelude.{◌≡◌};
+ghost use Rattle.session_text.specs.Status.{number_of, status_text, why_text};
+ghost use Rattle.session_text.specs.declared.status.Status.TheVariants.{BadLine};
+
+use arrayvec::ArrayString;
+use itoa::Buffer;
+
+/// Why a line is refused.
+#[derive(Clone, Copy, Debug, PartialEq, Eq)]
+pub enum Why {
+    /// The session isn't one of those that are read so far.
+    NotYet,
+}
+
+/// How a session ends.
+#[derive(Clone, Copy, Debug, PartialEq, Eq)]
+pub enum Status {
+    /// The `end` line was read, and all answers are written.
+    Done,
+    /// The words of the command line aren't understood.
+    Usage,
+    /// This line, counted from 1, is refused; line 0 stands for the session as a whole.
+    BadLine { line: u64, why: Why },
+    /// A read failed.
+    ReadFault,
+    /// A write failed.
+    WriteFault,
+    /// Room was asked for and refused.
+    Memory,
+}
+
+impl Status {
+    /// The exit status of the process: 0 for `Done`, 1 for `Usage`, 2 for `BadLine`, 5 for `ReadFault`,
+    /// 6 for `WriteFault` and 7 for `Memory`.
+    pub fn number(&self) -> u8
+        ensures { result ≡ number_of self.now }
+    {
+        match self {
+            Status::Done => 0,
+            Status::Usage => 1,
+            Status::BadLine { .. } => 2,
+            Status::ReadFault => 5,
+            Status::WriteFault => 6,
+            Status::Memory => 7,
+        }
+    }
+}
+
+/// What is told of a status, without a line feed; nothing of `Done`. No memory is taken.
+pub fn status_text(s: &Status) -> ArrayString<128>
+    ensures { result.bytes ≡ status_text s.now }
+{
+    let mut text = ArrayString::new();
+    match s {
+        Status::Done => {}
+        Status::Usage => text.push_str("carmen: usage"),
+        Status::BadLine { line, why } => return bad_line(*line, *why),
+        Status::ReadFault => text.push_str("carmen: read fault"),
+        Status::WriteFault => text.push_str("carmen: write fault"),
+        Status::Memory => text.push_str("carmen: out of memory"),
+    }
+    text
+}
+
+/// What is told of a line that is refused.
+fn bad_line(line: u64, why: Why) -> ArrayString<128>
+    ensures { result.bytes ≡ status_text (BadLine line why) }
+{
+    let mut buffer = Buffer::new();
+    let mut text = ArrayString::new();
+    text.push_str("carmen: line ");
+    text.push_str(buffer.format(line));
+    text.push_str(": ");
+    text.push_str(name_of(why));
+    text
+}
+
+/// The number and the name of a fault.
+fn name_of(why: Why) -> &'static str
+    ensures { result.now ≡ why_text why }
+{
+    match why {
+        Why::NotYet => "12 NotYet",
+    }
+}
+
+#[cfg(test)]
+mod tests {
+    use super::*;
+
+    #[test]
+    fn each_status_has_its_number_and_its_text(rt: HostRuntime) {
+        let bad_line = Status::BadLine {
+            line: 18_446_744_073_709_551_615,
+            why: Why::NotYet,
+        };
+        for (status, number, text) in [
+            (Status::Done, 0, ""),
+            (Status::Usage, 1, "carmen: usage"),
+            (bad_line, 2, "carmen: line 18446744073709551615: 12 NotYet"),
+            (Status::ReadFault, 5, "carmen: read fault"),
+            (Status::WriteFault, 6, "carmen: write fault"),
+            (Status::Memory, 7, "carmen: out of memory"),
+        ] {
+            assert_eq!(rt; status.number(), number);
+            assert_eq!(rt; status_text(&status).as_str(), text);
+        }
+    }
+}

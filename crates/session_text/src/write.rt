@@ -1,0 +1,273 @@
+//! The text of each answer. Each call appends to what is written so far; after want of memory that is still the front.
+
+ghost use Rattle.std.specs.Prelude.{◌≡◌, ◌≤◌, ◌*◌, ◌++◌, length, codes, decimal, flat_map, sum_by, OnOk, OnErr};
+ghost use Rattle.std.specs.Io.{StartsWith};
+ghost use Rattle.geo_base.specs.Order.{target_score};
+ghost use Rattle.session_text.specs.Reply.{tile_text, link_text, context_text, fault_text, reply_text, ask_text, taken_word, put_text, published_text};
+ghost use Rattle.session_text.specs.declared.reply.Reply.TheVariants.{Unreadable};
+
+use crate::query::QueryFault;
+use crate::reply::Reply;
+use feature_reader::table::Taken;
+use geo_base::answer::Contexts;
+use geo_base::link::Link;
+use geo_base::refusal::Memory;
+use geo_base::tile::Tile;
+use itoa::Buffer;
+
+/// Appends some bytes.
+fn push(out: &mut Vec<u8>, text: &[u8]) -> Result<(), Memory>
+    ensures ok { OnOk result (out.new.items ≡ out.old.items ++ text.now) }
+    ensures err { OnErr result (StartsWith out.new.items out.old.items) }
+{
+    out.extend_from_slice(text)?;
+    Ok(())
+}
+
+/// Appends a mark and then a number in digits.
+fn push_number(out: &mut Vec<u8>, mark: &[u8], n: u64) -> Result<(), Memory>
+    ensures ok { OnOk result (out.new.items ≡ out.old.items ++ (mark.now ++ decimal n)) }
+    ensures err { OnErr result (StartsWith out.new.items out.old.items) }
+{
+    let mut buffer = Buffer::new();
+    push(out, mark)?;
+    push(out, buffer.format(n).as_bytes())?;
+    Ok(())
+}
+
+/// Appends some bytes and then others.
+fn push_both(out: &mut Vec<u8>, first: &[u8], second: &[u8]) -> Result<(), Memory>
+    ensures ok { OnOk result (out.new.items ≡ out.old.items ++ (first.now ++ second.now)) }
+    ensures err { OnErr result (StartsWith out.new.items out.old.items) }
+{
+    push(out, first)?;
+    push(out, second)?;
+    Ok(())
+}
+
+/// Appends the text of a tile.
+fn write_tile(out: &mut Vec<u8>, tile: &Tile) -> Result<(), Memory>
+    ensures ok { OnOk result (out.new.items ≡ out.old.items ++ tile_text tile.now) }
+    ensures err { OnErr result (StartsWith out.new.items out.old.items) }
+{
+    push_number(out, b"@", u64::from(tile.z))?;
+    push_number(out, b"/", u64::from(tile.x))?;
+    push_number(out, b"/", u64::from(tile.y))?;
+    Ok(())
+}
+
+/// Appends the text of a link.
+fn write_link(out: &mut Vec<u8>, link: &Link) -> Result<(), Memory>
+    ensures ok { OnOk result (out.new.items ≡ out.old.items ++ link_text link.now) }
+    ensures err { OnErr result (StartsWith out.new.items out.old.items) }
+{
+    push_number(out, b" ", u64::from(link.layer))?;
+    push_number(out, b":", u64::from(link.id))?;
+    write_tile(out, &link.tile)?;
+    push_number(out, b"[", u64::from(link.from))?;
+    push_number(out, b",", u64::from(link.to))?;
+    push_number(out, b")=", u64::from(link.value))?;
+    Ok(())
+}
+
+/// Appends the texts of links.
+fn write_links(out: &mut Vec<u8>, links: &[Link]) -> Result<(), Memory>
+    ensures ok { OnOk result (out.new.items ≡ out.old.items ++ flat_map link_text links.now) }
+    ensures err { OnErr result (StartsWith out.new.items out.old.items) }
+{
+    for link in links {
+        write_link(out, link)?;
+    }
+    Ok(())
+}
+
+/// The sum of the values of at most 16 links.
+fn total(links: &[Link]) -> u64
+    requires { length links.now ≤ 16 }
+    ensures { result ≡ sum_by (λ l. l.value) links.now }
+{
+    let mut sum: u64 = 0;
+    for link in links {
+        sum += u64::from(link.value);
+    }
+    sum
+}
+
+/// The score of the target, the first link.
+fn score(links: &[Link]) -> u8
+    ensures { result ≡ target_score links.now }
+{
+    match links.first() {
+        Some(target) => target.score,
+        None => 0,
+    }
+}
+
+/// Appends the line of a context of a query with this many tokens.
+fn write_context(out: &mut Vec<u8>, tokens: u8, links: &[Link]) -> Result<(), Memory>
+    requires { length links.now ≤ 16 }
+    ensures ok { OnOk result (out.new.items ≡ out.old.items ++ context_text tokens links.now) }
+    ensures err { OnErr result (StartsWith out.new.items out.old.items) }
+{
+    push_number(out, b"context ", total(links))?;
+    push_number(out, b"/", 10_000 * u64::from(tokens))?;
+    push_number(out, b" score ", u64::from(score(links)))?;
+    write_links(out, links)?;
+    push(out, b"\n")?;
+    Ok(())
+}
+
+/// Appends the lines of contexts of a query with this many tokens.
+fn write_contexts(out: &mut Vec<u8>, tokens: u8, contexts: &Contexts) -> Result<(), Memory>
+    ensures ok { OnOk result (out.new.items ≡ out.old.items ++ flat_map (context_text tokens) contexts.now) }
+    ensures err { OnErr result (StartsWith out.new.items out.old.items) }
+{
+    for place in 0..contexts.len() {
+        write_context(out, tokens, contexts.at(place).links())?;
+    }
+    Ok(())
+}
+
+/// The number and the name of a fault.
+fn name_of(fault: QueryFault) -> &'static [u8]
+    ensures { result.now ≡ fault_text fault }
+{
+    match fault {
+        QueryFault::WrongOption => b"1 Option",
+        QueryFault::Long => b"3 Long",
+        QueryFault::Empty => b"4 Empty",
+        QueryFault::Tokens => b"5 Tokens",
+    }
+}
+
+/// Appends the text of a refusal.
+fn write_unreadable(out: &mut Vec<u8>, fault: QueryFault) -> Result<(), Memory>
+    ensures ok { OnOk result (out.new.items ≡ out.old.items ++ reply_text (Unreadable fault)) }
+    ensures err { OnErr result (StartsWith out.new.items out.old.items) }
+{
+    push_both(out, b"unreadable ", name_of(fault))?;
+    push(out, b"\n")?;
+    Ok(())
+}
+
+/// Appends the text of a reply that follows the lane and the place of its ask.
+fn write_answer(out: &mut Vec<u8>, r: &Reply) -> Result<(), Memory>
+    ensures ok { OnOk result (out.new.items ≡ out.old.items ++ reply_text r.now) }
+    ensures err { OnErr result (StartsWith out.new.items out.old.items) }
+{
+    match r {
+        Reply::Found { generation, answer } => {
+            push_number(out, b"gen ", u64::from(*generation))?;
+            push_number(out, b" found ", answer.contexts.len() as u64)?;
+            push(out, b"\n")?;
+            write_contexts(out, answer.tokens, &answer.contexts)?;
+        }
+        Reply::Unreadable(fault) => write_unreadable(out, *fault)?,
+        Reply::Memory => push(out, b"memory\n")?,
+    }
+    Ok(())
+}
+
+/// Appends the text of an ask: its lane, its place among the asks of its lane, counted from 0, and the reply.
+pub fn write_reply(out: &mut Vec<u8>, lane: u8, place: u64, r: &Reply) -> Result<(), Memory>
+    ensures ok { OnOk result (out.new.items ≡ out.old.items ++ ask_text lane place r.now) }
+    ensures err { OnErr result (StartsWith out.new.items out.old.items) }
+{
+    push_number(out, b"ask ", u64::from(lane))?;
+    push_number(out, b" ", place)?;
+    push(out, b" ")?;
+    write_answer(out, r)?;
+    Ok(())
+}
+
+/// What a put answers, in a word.
+fn word_of(taken: Taken) -> &'static [u8]
+    ensures { result.now ≡ taken_word taken }
+{
+    match taken {
+        Taken::New => b"new",
+        Taken::Changed => b"changed",
+    }
+}
+
+/// Appends the text of a put: its layer, the id of its feature, and what it answers.
+pub fn write_put(out: &mut Vec<u8>, layer: u8, id: u32, taken: Taken) -> Result<(), Memory>
+    ensures ok { OnOk result (out.new.items ≡ out.old.items ++ put_text layer id taken) }
+    ensures err { OnErr result (StartsWith out.new.items out.old.items) }
+{
+    push_number(out, b"put ", u64::from(layer))?;
+    push_number(out, b" ", u64::from(id))?;
+    push_both(out, b" ", word_of(taken))?;
+    push(out, b"\n")?;
+    Ok(())
+}
+
+/// Appends the text of a publication, which is its number.
+pub fn write_published(out: &mut Vec<u8>, k: u32) -> Result<(), Memory>
+    ensures ok { OnOk result (out.new.items ≡ out.old.items ++ published_text k) }
+    ensures err { OnErr result (StartsWith out.new.items out.old.items) }
+{
+    push_number(out, b"published ", u64::from(k))?;
+    push(out, b"\n")?;
+    Ok(())
+}
+
+#[cfg(test)]
+mod tests {
+    use super::*;
+    use geo_base::answer::Answer;
+    use geo_base::context::Context;
+    use std::alloc::Global;
+
+    /// The text of an answer with two contexts, after another text.
+    fn two_contexts(alloc: Global) -> Result<Vec<u8>, Memory> {
+        let mut city = Link::default();
+        let mut street = Link::default();
+        if let (Some(wide), Some(deep)) = (Tile::new(6, 32, 32), Tile::new(16, 65_535, 0)) {
+            city = Link {
+                layer: 0,
+                from: 0,
+                to: 2,
+                id: 7,
+                tile: wide,
+                value: 20_000,
+                score: 9,
+            };
+            street = Link {
+                layer: 15,
+                from: 1,
+                to: 2,
+                id: 67_108_863,
+                tile: deep,
+                value: 9600,
+                score: 0,
+            };
+        }
+        let mut contexts = Contexts::new();
+        contexts.push(Context::new(city));
+        contexts.push(Context::new(street));
+        let reply = Reply::Found {
+            generation: 4,
+            answer: Answer {
+                tokens: 2,
+                contexts,
+            },
+        };
+        let mut out = Vec::new(alloc);
+        write_put(&mut out, 0, 7, Taken::New)?;
+        write_published(&mut out, 4)?;
+        write_reply(&mut out, 3, 5, &reply)?;
+        write_reply(&mut out, 3, 6, &Reply::Unreadable(QueryFault::Empty))?;
+        Ok(out)
+    }
+
+    #[test]
+    fn an_answer_has_a_line_for_each_context(rt: HostRuntime) {
+        let text =
+            "put 0 7 new\npublished 4\nask 3 5 gen 4 found 2\ncontext 20000/20000 score 9 0:7@6/32/32[0,2)=20000\ncontext 9600/20000 score 0 15:67108863@16/65535/0[1,2)=9600\nask 3 6 unreadable 4 Empty\n";
+        match two_contexts(rt.alloc()) {
+            Ok(out) => assert!(rt; out.as_slice() == text.as_bytes()),
+            Err(_) => panic!(rt; "out of memory"),
+        }
+    }
+}
