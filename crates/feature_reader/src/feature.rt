@@ -1,10 +1,12 @@
-//! Features, and the feature that a JSON text stands for.
+//! Features, and why a text stands for none.
 
-ghost use Rattle.std.specs.Prelude.{◌≡◌, true};
+ghost use Rattle.std.specs.Prelude.{◌≡◌, IfOk};
 ghost use Rattle.feature_reader.specs.FeatureView.{FeatureView, IsFeature};
 
 use crate::phrase::Phrases;
 use crate::tiles::Tiles;
+use geo_base::refusal::Memory;
+use std::alloc::AllocError;
 use std::marker::Model;
 
 /// Why a text stands for no feature, in the order in which the faults are tried.
@@ -86,13 +88,9 @@ impl Feature {
     {
         &self.tiles
     }
-}
-
-impl Feature {
-    ghost use Rattle.std.specs.Prelude.{IfOk};
 
     /// An equal feature.
-    pub fn copy(&self) -> Result<Feature, geo_base::refusal::Memory>
+    pub fn copy(&self) -> Result<Feature, Memory>
         ensures { IfOk result (λ f. f ≡ self.now) }
     {
         Ok(Feature {
@@ -104,22 +102,13 @@ impl Feature {
     }
 }
 
-#[cfg(test)]
-pub mod examples {
-    use super::*;
-    use geo_base::refusal::Memory;
-    use geo_base::tile::Tile;
-    use std::alloc::Global;
+impl Clone for Feature {
+    ghost is_clone = { λ f g. g ≡ f };
 
-    /// A feature with this id, modulo 2^26, and the one tile.
-    pub fn feature_at(alloc: Global, id: u32, tile: Tile) -> Result<Feature, Memory> {
-        let mut tiles = Tiles::new(alloc);
-        tiles.push(tile)?;
-        Ok(Feature {
-            id: id % 67_108_864,
-            score: 0,
-            phrases: Phrases::new(alloc),
-            tiles,
-        })
+    fn clone(&self) -> Result<Feature, AllocError> {
+        match self.copy() {
+            Ok(feature) => Ok(feature),
+            Err(_) => Err(AllocError),
+        }
     }
 }

@@ -7,7 +7,7 @@ ghost use Rattle.feature_reader.specs.Table.{Table, IsTable, entry_of, put, put_
 
 use crate::feature::Feature;
 use geo_base::refusal::Memory;
-use std::alloc::{AllocError, Global};
+use std::alloc::Global;
 use std::collections::BTreeMap;
 use std::collections::btree_map::Iter;
 use std::marker::Model;
@@ -58,17 +58,6 @@ impl Model for FeatureTable {
     ghost view = { λ t. map entry_of t.features.entries };
 
     ghost invariant = { λ t. All (λ e. e.0.id ≡ e.1.id) t.features.entries × (length t.features.entries ≤ 262144) };
-}
-
-impl Clone for Feature {
-    ghost is_clone = { λ f g. g ≡ f };
-
-    fn clone(&self) -> Result<Feature, AllocError> {
-        match self.copy() {
-            Ok(feature) => Ok(feature),
-            Err(_) => Err(AllocError),
-        }
-    }
 }
 
 impl FeatureTable {
@@ -137,20 +126,39 @@ impl FeatureTable {
 #[cfg(test)]
 mod tests {
     use super::*;
-    use crate::feature::examples::feature_at;
-    use geo_base::tile::Tile;
+    use crate::json::value_of;
+    use crate::layer::Layer;
+    use crate::plain::is_plain;
+    use crate::read_feature::feature_of_value;
+    use crate::text::Text;
     use std::test::Fail;
+
+    /// The feature that a plain text stands for in a layer of zoom 6.
+    fn feature_of(alloc: Global, text: &str) -> Result<Feature, Fail> {
+        let layer = Layer::new(Text::of(alloc, "place")?, 6);
+        let value = value_of(alloc, text.as_bytes())?.ok_or("no JSON")?;
+        if !is_plain(&value) {
+            return Err(Fail::from("not plain"));
+        }
+        match feature_of_value(alloc, &layer, &value) {
+            Ok(feature) => Ok(feature),
+            Err(_) => Err(Fail::from("no feature")),
+        }
+    }
 
     #[test]
     fn takes_features_in_order(rt: HostRuntime) -> Result<(), Fail> {
         let alloc = rt.alloc();
-        let tile = Tile::new(1, 0, 1).ok_or("no tile")?;
+        let seven =
+            "{\"id\":7,\"properties\":{\"carmen:text\":\"a\",\"carmen:zxy\":[\"6/0/1\"]}}";
+        let nine =
+            "{\"id\":9,\"properties\":{\"carmen:text\":\"b\",\"carmen:zxy\":[\"6/1/0\"]}}";
         let mut table = FeatureTable::new(alloc);
-        assert_eq!(rt; table.take(1, feature_at(alloc, 7, tile)?)?, Taken::New);
+        assert_eq!(rt; table.take(1, feature_of(alloc, seven)?)?, Taken::New);
         assert_eq!(rt; table.len(), 1);
-        assert_eq!(rt; table.take(0, feature_at(alloc, 9, tile)?)?, Taken::New);
+        assert_eq!(rt; table.take(0, feature_of(alloc, nine)?)?, Taken::New);
         assert_eq!(rt; table.len(), 2);
-        assert_eq!(rt; table.take(1, feature_at(alloc, 7, tile)?)?, Taken::Changed);
+        assert_eq!(rt; table.take(1, feature_of(alloc, seven)?)?, Taken::Changed);
         assert_eq!(rt; table.len(), 2);
         let copy = table.copy()?;
         assert_eq!(rt; copy.len(), 2);
