@@ -20,7 +20,8 @@ pub onto_nothing : {B : Type 0} (o : Option (List B)) → o ≡ onto [] o
 onto_nothing None = refl
 onto_nothing (Some ys) = refl
 
-onto_one : {B : Type 0} (made : List B) (y : B) (o : Option (List B)) → onto made (option_and_then (λ ys. Some (y ∷ ys)) o) ≡ onto (made ++ y ∷ []) o
+-- one more is made before the rest
+pub onto_one : {B : Type 0} (made : List B) (y : B) (o : Option (List B)) → onto made (option_and_then (λ ys. Some (y ∷ ys)) o) ≡ onto (made ++ y ∷ []) o
 onto_one made y None = refl
 onto_one made y (Some ys) = ap Some (sym (append_assoc made (y ∷ []) ys))
 

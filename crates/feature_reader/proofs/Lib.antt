@@ -1,12 +1,12 @@
 mod AsciiTokens
 mod Joins
-mod SplitParts
+pub mod SplitParts
 mod Tables
 mod TileTexts
-mod Each
-mod PlainFacts
+pub mod Each
+pub mod PlainFacts
 mod Lists
 mod Rising
 mod Words
 mod FeatureFacts
-mod Rows
+mod WorkedFeatures

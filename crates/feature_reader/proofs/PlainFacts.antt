@@ -33,7 +33,8 @@ are_plain-object (object ns) ms is = let same : ns ≡ ms = cc in ap (λ l. has_
 pub token_count-ascii : (text : List ℕ) → IsAscii text → length (filter is_not_empty (slice_split (λ b. not (is_ascii_alphanumeric b)) text)) ≡ length (tokens_of text)
 token_count-ascii text ascii = sym (length-map _ _) ∙ ap length (sym (tokens_of-ascii text ascii))
 
-is_ascii-true : (bs : List ℕ) → IsAscii bs → is_ascii bs ≡ true
+-- a text of ASCII passes the test of each byte
+pub is_ascii-true : (bs : List ℕ) → IsAscii bs → is_ascii bs ≡ true
 is_ascii-true [] h = refl
 is_ascii-true (b ∷ bs) h = rw (lt-ltb b 128 (h zero), is_ascii-true bs (λ i. h (suc i))) refl
 

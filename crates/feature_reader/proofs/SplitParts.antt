@@ -1,6 +1,6 @@
 -- A list cut where a test passes: what a loop over `split` has gone through at its end, and what the first cut leaves.
 use Rattle.std.proofs.lemmas.List.{take_all, length-drop}
-use Rattle.std.proofs.Common.{◌≡◌, ◌∙◌, ◌+◌, ◌-◌, ◌≤◌, ℕ, Bool, true, false, List, [], ◌∷◌, length, take, drop, map, nat_lt, Option, None, Some, refl, sym, ap, arith, ltb-true}
+use Rattle.std.proofs.Common.{◌≡◌, ◌∙◌, ◌+◌, ◌-◌, ◌≤◌, ℕ, Bool, true, false, cond, List, [], ◌∷◌, length, take, drop, map, nat_lt, Option, None, Some, refl, sym, ap, arith, ltb-true}
 use Rattle.std.specs.Prelude.{position}
 use Rattle.std.specs.List.{position_or_len}
 use Rattle.std.proofs.lemmas.Bool.{ltb-false}
@@ -9,7 +9,7 @@ use Rattle.std.proofs.lemmas.List.Sums.{fails_before_first}
 use Rattle.std.specs.Slice.Iter as slice
 use Rattle.std.specs.Fn.{CalledAt}
 use Rattle.std.specs.Iterator.{Yields}
-use Rattle.std.specs.List.{slice_split}
+use Rattle.std.specs.List.{slice_split, onto_first}
 use denote.Param.Members.{Mut}
 use denote.Ref.{Bor}
 use Rattle.std.proofs.lemmas.Iterator.Consumers.{YieldsList-end, YieldsList-at}
@@ -42,3 +42,13 @@ cut_some p xs at is = elim (nat_lt (position_or_len p xs) (length xs)) as (λ b.
 -- the elements from n on, up to the end
 pub rest_is : (n : ℕ) (xs : List ℕ) → take (length xs - n) (drop n xs) ≡ drop n xs
 rest_is n xs = let h : length (drop n xs) ≤ length xs - n = omega (arith, length-drop n xs) in take_all _ _ h
+
+-- there is always a part
+pub some_part : (p : ℕ → Bool) (xs : List ℕ) → (y : List ℕ) × (ys : List (List ℕ)) × (slice_split p xs ≡ y ∷ ys)
+some_part p [] = ([], [], refl)
+some_part p (x ∷ xs) =
+    let more = some_part p xs in
+    elim (p x) as (λ b. (y : List ℕ) × (ys : List (List ℕ)) × (cond b ([] ∷ slice_split p xs) (onto_first x (slice_split p xs)) ≡ y ∷ ys)) [
+      | true ↦ ([], slice_split p xs, refl)
+      | false ↦ (x ∷ more.0, more.1, ap (onto_first x) more.2)
+    ]

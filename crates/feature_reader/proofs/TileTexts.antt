@@ -1,7 +1,8 @@
 -- A text with more than two slashes names no tile.
-use Rattle.std.proofs.Common.{◌≡◌, ◌∙◌, ℕ, Bool, true, false, cond, List, [], ◌∷◌, Option, None, Some, IfSome, refl, ap, ◌==◌}
+use Rattle.std.proofs.Common.{◌≡◌, ◌∙◌, ℕ, List, ◌∷◌, Option, None, Some, IfSome, refl, ap, ◌==◌}
 use Rattle.std.specs.Prelude.{option_and_then}
-use Rattle.std.specs.List.{slice_split, onto_first}
+use Rattle.std.specs.List.{slice_split}
+use Rattle.feature_reader.proofs.SplitParts.{some_part}
 use Rattle.feature_reader.specs.Numbers.{numbers_of, number_of, tile_of, tile_of_numbers}
 
 -- where a first number and the others are there, there is a first
@@ -21,16 +22,6 @@ four (Some z) None c p h = refl
 four (Some z) (Some x) None p h = refl
 four (Some z) (Some x) (Some y) None h = refl
 four (Some z) (Some x) (Some y) (Some ns) h = rw h.2 refl
-
--- there is always a part
-pub some_part : (p : ℕ → Bool) (xs : List ℕ) → (y : List ℕ) × (ys : List (List ℕ)) × (slice_split p xs ≡ y ∷ ys)
-some_part p [] = ([], [], refl)
-some_part p (x ∷ xs) =
-    let more = some_part p xs in
-    elim (p x) as (λ b. (y : List ℕ) × (ys : List (List ℕ)) × (cond b ([] ∷ slice_split p xs) (onto_first x (slice_split p xs)) ≡ y ∷ ys)) [
-      | true ↦ ([], slice_split p xs, refl)
-      | false ↦ (x ∷ more.0, more.1, ap (onto_first x) more.2)
-    ]
 
 -- three slashes or more
 pub too_many : (text z rest x y a b : List ℕ) → slice_split (λ c. c == 47) text ≡ z ∷ slice_split (λ c. c == 47) rest → slice_split (λ c. c == 47) rest ≡ x ∷ slice_split (λ c. c == 47) y

@@ -8,6 +8,7 @@ ghost use Rattle.feature_reader.specs.Feature.{is_plain, are_plain, is_plain_nam
 ghost use Rattle.feature_reader.specs.Json.{member};
 ghost use Rattle.feature_reader.specs.Tokens.{tokens_of};
 
+use crate::tokens::is_break;
 use serde_json::Value;
 use serde_json::value::Map;
 
@@ -80,14 +81,7 @@ fn token_count(text: &str) -> usize
     ensures { result ≡ length (tokens_of text.now) }
 {
     text.as_bytes()
-        .split(ends_token)
+        .split(is_break)
         .filter(|part| !part.is_empty())
         .count()
-}
-
-/// The byte is neither a letter nor a digit.
-fn ends_token(b: &u8) -> bool
-    ensures { result ≡ not (is_ascii_alphanumeric b.now) }
-{
-    !b.is_ascii_alphanumeric()
 }

@@ -149,10 +149,8 @@ mod tests {
     #[test]
     fn takes_features_in_order(rt: HostRuntime) -> Result<(), Fail> {
         let alloc = rt.alloc();
-        let seven =
-            "{\"id\":7,\"properties\":{\"carmen:text\":\"a\",\"carmen:zxy\":[\"6/0/1\"]}}";
-        let nine =
-            "{\"id\":9,\"properties\":{\"carmen:text\":\"b\",\"carmen:zxy\":[\"6/1/0\"]}}";
+        let seven = "{\"id\":7,\"properties\":{\"carmen:text\":\"a\",\"carmen:zxy\":[\"6/0/1\"]}}";
+        let nine = "{\"id\":9,\"properties\":{\"carmen:text\":\"b\",\"carmen:zxy\":[\"6/1/0\"]}}";
         let mut table = FeatureTable::new(alloc);
         assert_eq!(rt; table.take(1, feature_of(alloc, seven)?)?, Taken::New);
         assert_eq!(rt; table.len(), 1);

@@ -8,7 +8,8 @@ use crate::text::{Text, Tokens};
 use geo_base::refusal::Memory;
 use std::alloc::Global;
 
-/// The tokens of an ASCII text: the runs of letters and digits in lower case.
+/// The tokens of an ASCII text: the runs of letters and digits in lower case. Memory may be
+/// refused in place of any answer.
 pub fn tokens(alloc: Global, text: &str) -> Result<Tokens, Memory>
     requires { IsAscii text.now }
     ensures { IfOk result (λ list. list ≡ tokens_of text.now) }
@@ -22,7 +23,8 @@ pub fn tokens(alloc: Global, text: &str) -> Result<Tokens, Memory>
     Ok(tokens)
 }
 
-/// The tokens of a run, from `from` up to but not `to`, with one space between them.
+/// The tokens of a run, from `from` up to but not `to`, with one space between them. Memory
+/// may be refused in place of any answer.
 pub fn joined(alloc: Global, list: &Tokens, from: usize, to: usize) -> Result<Text, Memory>
     requires some { from < to }
     requires within { to ≤ length list.now }
@@ -48,7 +50,7 @@ fn lower_case(alloc: Global, part: &[u8]) -> Result<Text, Memory>
 }
 
 /// The byte is neither a letter nor a digit.
-fn is_break(b: &u8) -> bool
+pub(crate) fn is_break(b: &u8) -> bool
     ensures { result ≡ not (is_ascii_alphanumeric b.now) }
 {
     !b.is_ascii_alphanumeric()

@@ -1,66 +1,19 @@
 -- Lines and the body that they spell, taken line by line.
-use Rattle.std.proofs.Common.{◌≡◌, ◌∙◌, ◌+◌, ◌-◌, ◌≤◌, ◌==◌, ℕ, Bool, true, false, List, [], ◌∷◌, ◌++◌, length, take, drop, nat_lt, Option, None, Some, refl, sym, ap, arith, append_assoc, append-nil, ltb-true}
-use Rattle.std.proofs.lemmas.List.{take_all, length-drop}
+use Rattle.std.proofs.Common.{◌≡◌, ◌∙◌, ◌==◌, ℕ, Bool, true, false, List, [], ◌∷◌, ◌++◌, length, take, nat_lt, Option, None, Some, refl, sym, ap}
+use Rattle.std.proofs.lemmas.List.{take_all}
 use Rattle.std.proofs.lemmas.Bool.{ltb-false}
-use Rattle.std.proofs.lemmas.List.Splits.{slice_split_none, slice_split_first}
-use Rattle.std.proofs.lemmas.List.Sums.{fails_before_first}
 use Rattle.std.proofs.lemmas.Slice.Eq.{bytes_eq-Decides}
-use Rattle.std.specs.Prelude.{position, bytes_eq, codes, option_and_then, cond, if◌then◌else◌}
-use Rattle.std.specs.List.{position_or_len, before_first, slice_split, onto_first}
+use Rattle.std.specs.Prelude.{position, bytes_eq, codes, option_and_then, if◌then◌else◌}
+use Rattle.std.specs.List.{position_or_len, before_first}
 use Rattle.feature_reader.specs.Json.{each_of}
 use Rattle.feature_reader.specs.Layer.{LayerView}
+use Rattle.feature_reader.proofs.Each.{onto, onto_one}
+use Rattle.feature_reader.proofs.SplitParts.{some_part}
 use Rattle.session_text.specs.declared.body.BodyLine.{BodyLine}
 use Rattle.session_text.specs.FirstSession.{parts, last, front, first_line, first_body, first_lines, first_layer, with_body}
 
--- nothing passes: the list is the one part
-pub cut_none : (p : ℕ → Bool) (xs : List ℕ) → position p xs ≡ None → slice_split p xs ≡ xs ∷ []
-cut_none p xs is = elim (nat_lt (position_or_len p xs) (length xs)) as (λ b. (nat_lt (position_or_len p xs) (length xs) ≡ b) → slice_split p xs ≡ xs ∷ []) [
-  | true ↦ λ e. let bad : Some (position_or_len p xs) ≡ None = sym (rw e refl) ∙ is in absurd (cc bad)
-  | false ↦ λ e. slice_split_none p xs (λ k d lt. fails_before_first p xs k d (omega (arith, lt, ltb-false _ _ e)))
-] refl
-
--- the first that passes cuts off the first part
-pub cut_some : (p : ℕ → Bool) (xs : List ℕ) (at : ℕ) → position p xs ≡ Some at → slice_split p xs ≡ take at xs ∷ slice_split p (drop (at + 1) xs)
-cut_some p xs at is = elim (nat_lt (position_or_len p xs) (length xs)) as (λ b. (nat_lt (position_or_len p xs) (length xs) ≡ b) → slice_split p xs ≡ take at xs ∷ slice_split p (drop (at + 1) xs)) [
-  | true ↦ λ e.
-      let both : Some (position_or_len p xs) ≡ Some at = sym (rw e refl) ∙ is in
-      let same : position_or_len p xs ≡ at = cc both in
-      slice_split_first p xs 0 (ltb-true _ _ e) ∙ ap (λ n. take n xs ∷ slice_split p (drop (n + 1) xs)) same
-  | false ↦ λ e. let bad : None ≡ Some at = sym (rw e refl) ∙ is in absurd (cc bad)
-] refl
-
--- the elements from n on, up to the end
-pub rest_is : (n : ℕ) (xs : List ℕ) → take (length xs - n) (drop n xs) ≡ drop n xs
-rest_is n xs = let h : length (drop n xs) ≤ length xs - n = omega (arith, length-drop n xs) in take_all _ _ h
-
--- there is a first part
-some_parts : (bytes : List ℕ) → (line : List ℕ) × (lines : List (List ℕ)) × (parts bytes ≡ line ∷ lines)
-some_parts [] = ([], [], refl)
-some_parts (b ∷ bytes) =
-    let rest = some_parts bytes in
-    elim (b == 10) as (λ c. (line : List ℕ) × (lines : List (List ℕ)) × (cond c ([] ∷ parts bytes) (onto_first b (parts bytes)) ≡ line ∷ lines)) [
-      | true ↦ ([], parts bytes, refl)
-      | false ↦ (b ∷ rest.0, rest.1, ap (onto_first b) rest.2)
-    ]
-
--- what was read so far, and what the rest gives
-abbrev pub onto : List BodyLine → Option (List BodyLine) → Option (List BodyLine)
-onto made None = None
-onto made (Some lines) = Some (made ++ lines)
-
-pub onto-nil : (o : Option (List BodyLine)) → o ≡ onto [] o
-onto-nil None = refl
-onto-nil (Some lines) = refl
-
-onto-onto : (made : List BodyLine) (y : BodyLine) (o : Option (List BodyLine)) → onto made (onto (y ∷ []) o) ≡ onto (made ++ y ∷ []) o
-onto-onto made y None = refl
-onto-onto made y (Some lines) = ap Some (sym (append_assoc made (y ∷ []) lines))
-
-onto-one : (y : BodyLine) (o : Option (List BodyLine)) → option_and_then (λ lines. Some (y ∷ lines)) o ≡ onto (y ∷ []) o
-onto-one y None = refl
-onto-one y (Some lines) = refl
-
-body_more : (zoom : ℕ) (line : List ℕ) (lines : List (List ℕ)) (y : BodyLine) → first_line zoom line ≡ Some y → first_body zoom (line ∷ lines) ≡ onto (y ∷ []) (first_body zoom lines)
+-- one more line before the end
+body_more : (zoom : ℕ) (line : List ℕ) (lines : List (List ℕ)) (y : BodyLine) → first_line zoom line ≡ Some y → first_body zoom (line ∷ lines) ≡ option_and_then (λ ys. Some (y ∷ ys)) (first_body zoom lines)
 body_more zoom line [] y is =
     elim (bytes_eq line (codes "end")) as (λ b. (bytes_eq line (codes "end") ≡ b) → (let none : Option (List BodyLine) = None in (if b then Some [] else none) ≡ none)) [
       | true ↦ λ e.
@@ -71,11 +24,12 @@ body_more zoom line [] y is =
       | false ↦ λ e. refl
     ] refl
 body_more zoom line (next ∷ lines) y is =
-    elim (bytes_eq (last (next ∷ lines)) (codes "end")) as (λ b. (if b then each_of (first_line zoom) (line ∷ front (next ∷ lines)) else None) ≡ onto (y ∷ []) (if b then each_of (first_line zoom) (front (next ∷ lines)) else None)) [
-      | true ↦ ap (option_and_then (λ z. option_and_then (λ ys. Some (z ∷ ys)) (each_of (first_line zoom) (front (next ∷ lines))))) is ∙ onto-one y _
+    elim (bytes_eq (last (next ∷ lines)) (codes "end")) as (λ b. (if b then each_of (first_line zoom) (line ∷ front (next ∷ lines)) else None) ≡ option_and_then (λ ys. Some (y ∷ ys)) (if b then each_of (first_line zoom) (front (next ∷ lines)) else None)) [
+      | true ↦ ap (option_and_then (λ z. option_and_then (λ ys. Some (z ∷ ys)) (each_of (first_line zoom) (front (next ∷ lines))))) is
       | false ↦ refl
     ]
 
+-- a line that is none of a body's, before the end
 body_less : (zoom : ℕ) (line next : List ℕ) (lines : List (List ℕ)) → first_line zoom line ≡ None → first_body zoom (line ∷ next ∷ lines) ≡ None
 body_less zoom line next lines is =
     elim (bytes_eq (last (next ∷ lines)) (codes "end")) as (λ b. (let none : Option (List BodyLine) = None in (if b then each_of (first_line zoom) (line ∷ front (next ∷ lines)) else none) ≡ none)) [
@@ -87,28 +41,17 @@ body_less zoom line next lines is =
 pub body_on : (zoom : ℕ) (rest line after : List ℕ) (made : List BodyLine) (y : BodyLine) (all : Option (List BodyLine)) → parts rest ≡ line ∷ parts after → first_line zoom line ≡ Some y
     → all ≡ onto made (first_body zoom (parts rest)) → all ≡ onto (made ++ y ∷ []) (first_body zoom (parts after))
 body_on zoom rest line after made y all cut is so_far =
-    so_far ∙ ap (λ ls. onto made (first_body zoom ls)) cut ∙ ap (onto made) (body_more zoom line (parts after) y is) ∙ onto-onto made y _
+    so_far ∙ ap (λ ls. onto made (first_body zoom ls)) cut ∙ ap (onto made) (body_more zoom line (parts after) y is) ∙ onto_one made y _
 
 -- a line is refused
 pub body_off : (zoom : ℕ) (rest line after : List ℕ) (made : List BodyLine) (all : Option (List BodyLine)) → parts rest ≡ line ∷ parts after → first_line zoom line ≡ None
     → all ≡ onto made (first_body zoom (parts rest)) → all ≡ None
 body_off zoom rest line after made all cut is so_far =
-    let more = some_parts after in
+    let more = some_part (λ b. b == 10) after in
     let none : first_body zoom (line ∷ parts after) ≡ None = ap (λ ls. first_body zoom (line ∷ ls)) more.2 ∙ body_less zoom line more.0 more.1 is in
     so_far ∙ ap (λ ls. onto made (first_body zoom ls)) cut ∙ ap (onto made) none
 
--- the last line is `end`
-pub body_end : (zoom : ℕ) (rest : List ℕ) (made : List BodyLine) (all : Option (List BodyLine)) → parts rest ≡ rest ∷ [] → rest ≡ codes "end"
-    → all ≡ onto made (first_body zoom (parts rest)) → all ≡ Some made
-body_end zoom rest made all cut is so_far =
-    so_far ∙ ap (λ ls. onto made (first_body zoom ls)) cut ∙ ap (λ l. onto made (first_body zoom (l ∷ []))) is ∙ ap Some (append-nil made)
-
--- the last line isn't `end`
-pub body_open : (zoom : ℕ) (rest : List ℕ) (made : List BodyLine) (all : Option (List BodyLine)) → parts rest ≡ rest ∷ [] → bytes_eq rest (codes "end") ≡ false
-    → all ≡ onto made (first_body zoom (parts rest)) → all ≡ None
-body_open zoom rest made all cut is so_far =
-    so_far ∙ ap (λ ls. onto made (first_body zoom ls)) cut ∙ ap (λ b. onto made (if b then Some [] else None)) is
-
+-- no lines are no body
 nothing : (o : Option LayerView) → option_and_then (λ layer. option_and_then (with_body layer) (first_body layer.zoom [])) o ≡ None
 nothing None = refl
 nothing (Some layer) = refl

@@ -18,6 +18,7 @@ last [] = []
 last (x ∷ []) = x
 last (x ∷ y ∷ ys) = last (y ∷ ys)
 
+-- the lines before the last
 abbrev pub front : List (List ℕ) → List (List ℕ)
 front [] = []
 front (x ∷ []) = []
@@ -39,10 +40,11 @@ all_lines bytes = parts (without_feed bytes)
 abbrev pub layer_line : List ℕ → ℕ → List ℕ
 layer_line name zoom = codes "layer {\"name\":\"" ++ name ++ codes "\",\"zoom\":" ++ decimal zoom ++ codes "}"
 
--- where the line of a layer has its name, and after it its zoom; 17 where there is no number
+-- where the line of a layer has its name: from its byte 15 up to the next quotation mark
 abbrev pub name_in : List ℕ → List ℕ
 name_in line = before_first (λ b. b == 34) (drop 15 line)
 
+-- the number that follows that name; 17, which is no zoom, where there is none
 abbrev pub zoom_in : List ℕ → ℕ
 zoom_in line = unwrap_or (number_of (before_first (λ b. b == 125) (drop (length (name_in line) + 24) line))) 17
 
@@ -80,14 +82,17 @@ first_line zoom line =
     else if bytes_eq (take 4 line) (codes "ask ") then first_ask line
     else first_put zoom line
 
+-- the line is a put
 abbrev pub is_put : BodyLine → Bool
 is_put (Put layer f) = true
 is_put line = false
 
+-- the line is a publication
 abbrev pub is_publish : BodyLine → Bool
 is_publish Publish = true
 is_publish line = false
 
+-- the line is an ask
 abbrev pub is_ask : BodyLine → Bool
 is_ask (Ask lane text) = true
 is_ask line = false

@@ -12,7 +12,7 @@ use std::marker::Model;
 /// A line of a session's body.
 #[derive(Drop)]
 pub enum BodyLine {
-    /// Puts a feature into a layer.
+    /// Puts a feature into the layer of this number, counted from 0.
     Put { layer: u8, feature: Feature },
     /// Publishes the next generation.
     Publish,

@@ -37,7 +37,13 @@ const MOST_PUBLICATIONS: usize = 1;
 /// The most asks of a session.
 const MOST_ASKS: usize = 4096;
 
-/// The layer and the body of a session that is one of those read so far; else the fault is NotYet.
+/// The layer and the body of the session that these bytes are: fewer than 1,048,576 bytes, whose
+/// first line is `carmen 1`, whose second line gives the layer, whose last is `end`, and of which
+/// each other line puts a plain feature into layer 0, publishes, or asks a readable query on lane
+/// 0; at most 16 puts, one publication and 4,096 asks. Any other bytes are the fault `NotYet`.
+///
+/// Memory is asked for by the layer, the features and the lines, and may be refused in place of
+/// any answer.
 pub fn read_first(alloc: Global, bytes: &[u8]) -> Result<(Layer, Round), Refused<Why>>
     ensures ok { IfOk result (λ r. first_session bytes.now ≡ Some (r.0, r.1)) }
     ensures fault { result ≡ Err (refused.Fault NotYet) → first_session bytes.now ≡ None }

@@ -82,7 +82,10 @@ fn count_characters(text: &str) -> usize
     text.chars().count()
 }
 
-/// The query that a line spells, which is what follows the lane of an ask, or its first fault.
+/// The query that a line spells, which is what follows the lane of an ask, or the first of its
+/// faults in the order `WrongOption`, `Long`, `Empty`, `Tokens`.
+///
+/// Memory may be refused in place of any answer.
 pub fn read_query(alloc: Global, line: &str) -> Result<Query, Refused<QueryFault>>
     requires { IsAscii line.now }
     ensures ok { IfOk result (λ q. query_of line.now ≡ Ok q) }

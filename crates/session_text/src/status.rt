@@ -10,7 +10,7 @@ use itoa::Buffer;
 /// Why a line is refused.
 #[derive(Clone, Copy, Debug, PartialEq, Eq)]
 pub enum Why {
-    /// The session isn't one of those that are read so far.
+    /// The session isn't one that this program accepts.
     NotYet,
 }
 

@@ -1,4 +1,4 @@
-//! The text of each answer. Each call appends to what is written so far; after want of memory that is still the front.
+//! The text of each answer. Each call appends to what stands in `out`; after want of memory that is still the front.
 
 ghost use Rattle.std.specs.Prelude.{◌≡◌, ◌≤◌, ◌*◌, ◌++◌, length, codes, decimal, flat_map, sum_by, OnOk, OnErr};
 ghost use Rattle.std.specs.Io.{StartsWith};

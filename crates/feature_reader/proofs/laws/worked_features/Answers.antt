@@ -1,4 +1,4 @@
-use Rattle.feature_reader.proofs.Rows.{no_id, large_id, no_tiles, other_zoom, no_tile, unfinished, good}
+use Rattle.feature_reader.proofs.WorkedFeatures.{no_id, large_id, no_tiles, other_zoom, no_tile, unfinished, good}
 use Rattle.feature_reader.proofs.laws.worked_features.Goals as goal
 
 pub returns : goal.returns

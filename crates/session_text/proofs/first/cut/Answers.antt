@@ -1,6 +1,6 @@
 use Rattle.std.proofs.Common.{◌∙◌, ◌+◌, ℕ, ◌==◌, ◌∷◌, sym, ap, take, List}
 use Rattle.session_text.specs.FirstSession.{parts}
-use Rattle.session_text.proofs.Lines.{cut_some, cut_none, rest_is}
+use Rattle.feature_reader.proofs.SplitParts.{cut_some, cut_none, rest_is}
 use Rattle.session_text.proofs.first.cut.Goals as goal
 
 pub returns-in-Some-clause-cases : goal.returns-in-Some-clause-cases

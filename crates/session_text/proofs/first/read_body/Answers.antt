@@ -1,6 +1,7 @@
 use Rattle.std.proofs.Common.{◌≡◌, ◌∙◌, None, Some, ap, sym}
 use Rattle.session_text.specs.FirstSession.{parts, first_line, first_body}
-use Rattle.session_text.proofs.Lines.{onto, body_on, body_off}
+use Rattle.feature_reader.proofs.Each.{onto}
+use Rattle.session_text.proofs.Lines.{body_on, body_off}
 use Rattle.session_text.proofs.first.read_body.Goals as goal
 
 pub returns-in_default-2 : goal.returns-in_default-2

@@ -1,6 +1,6 @@
 use Rattle.std.proofs.Common.{◌≡◌, length}
 use Rattle.session_text.specs.FirstSession.{parts, first_body}
-use Rattle.session_text.proofs.Lines.{onto}
+use Rattle.feature_reader.proofs.Each.{onto}
 use Rattle.session_text.proofs.first.read_body.Given as goal
 
 -- the lines so far, and what the rest gives
