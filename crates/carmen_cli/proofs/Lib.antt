@@ -1,0 +1,9 @@
+mod Begins
+mod Products
+mod RunLists
+mod LinkFacts
+mod OneLayer
+mod Accepted
+mod Rounds
+mod Pieces
+mod Outcome

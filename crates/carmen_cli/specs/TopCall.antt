@@ -1,0 +1,56 @@
+-- What the top call promises, status by status.
+use Rattle.std.specs.Prelude.{◌≡◌, ◌⊎◌, ◌<◌, ◌≤◌, ℕ, Bool, true, false, List, [], ◌∷◌, ◌++◌, length, take, codes, bytes_eq, nat_lt, Option, IfSome}
+use Rattle.std.specs.Io.KnownBytes.{Consumes, Appends, IsAtEnd}
+use Rattle.session_text.specs.declared.status.Status.{Status}
+use Rattle.session_text.specs.declared.status.Status.TheVariants.{Done, Usage, BadLine, ReadFault, WriteFault, Memory}
+use Rattle.carmen_cli.specs.Reading.{Ending, Reading, at_end_line, at_bad_line, unended, reading}
+use Rattle.carmen_cli.specs.Plain.{IsPlainText}
+
+-- the words are the one word `plain`
+abbrev pub asks_for_plain : List (List ℕ) → Bool
+asks_for_plain [] = false
+asks_for_plain (word ∷ []) = bytes_eq word (codes "plain")
+asks_for_plain (word ∷ second ∷ more) = false
+
+-- xs is a front of ys
+abbrev pub IsFront : List ℕ → List ℕ → Type 0
+IsFront xs ys = (rest : List ℕ) × (ys ≡ xs ++ rest)
+
+-- xs is a front of ys, and not all of it
+abbrev pub IsProperFront : List ℕ → List ℕ → Type 0
+IsProperFront xs ys = (rest : List ℕ) × (ys ≡ xs ++ rest) × (0 < length rest)
+
+-- what a call took from its source and wrote to its sink, where these tell it; ended: the source was found at its end, below the limit
+pub record Moved (limit : ℕ) (left left_after contents contents_after : Option (List ℕ)) (taken put : List ℕ) (ended : Bool) : Type 0 where
+  pub took : Consumes left left_after taken
+  pub wrote : Appends contents contents_after put
+  pub within : length taken ≤ limit
+  pub at_end : ended ≡ true → IsAtEnd left_after × (length taken < limit)
+
+-- what is written is a text of the reading
+abbrev pub IsTextOf : Reading → List ℕ → Type 0
+IsTextOf read put = IsPlainText read.layers read.rounds put
+
+-- what each status says of the reading of the bytes taken, and of the bytes written
+abbrev pub Says : Status → Reading → List ℕ → Type 0
+Says Done read put = (read.ending ≡ at_end_line) × IsTextOf read put
+Says Usage read put = put ≡ []
+Says (BadLine line why) read put = (read.ending ≡ at_bad_line line why) × IsTextOf read put
+Says ReadFault read put = (read.ending ≡ unended) × IsTextOf read put
+Says WriteFault read put = (text : List ℕ) × IsTextOf read text × IsProperFront put text
+Says Memory read put = (text : List ℕ) × IsTextOf read text × IsFront put text
+
+-- some bytes were taken and some written, as the status says
+abbrev pub Answers : ℕ → Option (List ℕ) → Option (List ℕ) → Option (List ℕ) → Option (List ℕ) → Status → Type 0
+Answers limit left left_after contents contents_after status =
+    (taken : List ℕ) × (put : List ℕ) × (ended : Bool) × Moved limit left left_after contents contents_after taken put ended × Says status (reading limit ended taken) put
+
+-- the status that a reading decides
+abbrev pub Decides : Ending → Status → Type 0
+Decides at_end_line status = status ≡ Done
+Decides (at_bad_line line why) status = status ≡ BadLine line why
+Decides unended status = ⊥
+
+-- the bytes of the source, up to the limit, decide the status, but for want of memory
+abbrev pub IsDecided : ℕ → Option (List ℕ) → Status → Type 0
+IsDecided limit left status = IfSome left (λ bytes. (status ≡ Memory) ⊎ Decides (reading limit (nat_lt (length bytes) limit) (take limit bytes)).ending status)

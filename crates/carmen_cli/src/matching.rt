@@ -1,0 +1,41 @@
+//! Which runs of a query match a phrase.
+
+ghost use Rattle.std.specs.Prelude.{◌≡◌, ◌<◌, ◌≤◌, ◌++◌, ℕ, List, length, MatchOption};
+ghost use Rattle.feature_reader.specs.Tokens.{joined};
+ghost use Rattle.carmen_cli.specs.Match.{matches};
+
+use feature_reader::text::Text;
+use session_text::query::Query;
+
+/// What of a text follows these bytes, where it begins with them.
+fn after<'a>(text: &'a [u8], front: &[u8]) -> Option<&'a [u8]>
+    ensures { MatchOption result ((rest : List ℕ) → text.now ≡ front.now ++ rest → ⊥) (λ rest. text.now ≡ front.now ++ rest.now) }
+{
+    text.strip_prefix(front)
+}
+
+/// What of a phrase follows the text of a run, where it begins with it: the tokens with one space between them.
+fn after_run<'a>(phrase: &'a [u8], tokens: &[Text]) -> Option<&'a [u8]>
+    ensures { MatchOption result ((rest : List ℕ) → phrase.now ≡ joined tokens.now ++ rest → ⊥) (λ rest. phrase.now ≡ joined tokens.now ++ rest.now) }
+{
+    match tokens {
+        [] => Some(phrase),
+        [last] => after(phrase, last.as_str().as_bytes()),
+        [first, more @ ..] => {
+            let rest = after(phrase, first.as_str().as_bytes())?;
+            after_run(after(rest, b" ")?, more)
+        }
+    }
+}
+
+/// Whether the run of tokens from `from` up to but not `to` matches the phrase.
+pub fn is_match(query: &Query, from: usize, to: usize, phrase: &str) -> bool
+    requires some { from < to }
+    requires within { to ≤ length query.now.tokens }
+    ensures { result ≡ matches query.now from to phrase.now }
+{
+    match after_run(phrase.as_bytes(), &query.tokens().as_slice()[from..to]) {
+        Some(rest) => rest.is_empty() || query.auto() && to == query.tokens().len(),
+        None => false,
+    }
+}

@@ -1,0 +1,155 @@
+//! Answers the lines of a session in order, and makes their text.
+
+ghost use Rattle.std.specs.Prelude.{◌≡◌, ◌⊎◌, ◌<◌, ◌≤◌, List, [], ◌∷◌, length, true, All, IsAscii, OnOk, IfOk, MatchOption, Some, None};
+ghost use Rattle.feature_reader.specs.Layer.{LayerView};
+ghost use Rattle.session_text.specs.declared.body.BodyLine.{BodyLine};
+ghost use Rattle.session_text.specs.declared.reply.Reply.{Reply};
+ghost use Rattle.session_text.specs.declared.body.BodyLine.TheVariants.{Put, Publish, Ask};
+ghost use Rattle.session_text.specs.FirstSession.{are_few, first_session};
+ghost use Rattle.carmen_cli.specs.Links.{IsOfLayer};
+ghost use Rattle.carmen_cli.specs.Answering.{Published, reply_to};
+ghost use Rattle.carmen_cli.specs.Plain.{IsText, IsPlainText, empty, no_asks};
+ghost use Rattle.carmen_cli.specs.PlainLines.{IsPlainLine, IsReady, IsStep};
+
+use crate::filter::answer_in_layer;
+use feature_reader::feature::Feature;
+use feature_reader::layer::Layer;
+use feature_reader::table::FeatureTable;
+use feature_reader::text::Text;
+use geo_base::refusal::{Memory, Refused};
+use session_text::body::{BodyLine, Round};
+use session_text::first::read_first;
+use session_text::query::read_query;
+use session_text::reply::Reply;
+use session_text::status::Why;
+use session_text::write::{write_published, write_put, write_reply};
+use std::alloc::Global;
+
+/// What stands while a session is answered: the features, and what was published last.
+#[derive(Drop)]
+struct Session {
+    /// The features that were put so far.
+    table: FeatureTable,
+    /// The features of the last published generation.
+    published: FeatureTable,
+    /// The number of the last published generation; 0 is empty.
+    number: u32,
+    /// How many asks each lane has had.
+    asks: [u64; 8],
+}
+
+/// The reply of a generation to the text of a query.
+fn reply(alloc: Global, layer: &Layer, published: &FeatureTable, number: u32, text: &str) -> Reply
+    requires ascii { IsAscii text.now }
+    requires layer { IsOfLayer layer.now.zoom published.now }
+    ensures { (result ≡ reply_to (layer.now ∷ []) (record { number = number; table = published.now }) text.now) ⊎ (result ≡ Reply.Memory) }
+{
+    match read_query(alloc, text) {
+        Ok(query) => match answer_in_layer(alloc, layer, published, &query) {
+            Ok(answer) => Reply::Found {
+                generation: number,
+                answer,
+            },
+            Err(Memory) => Reply::Memory,
+        },
+        Err(Refused::Fault(fault)) => Reply::Unreadable(fault),
+        Err(Refused::Memory) => Reply::Memory,
+    }
+}
+
+/// Puts a feature into a layer.
+fn put(session: &mut Session, layer: u8, feature: Feature, out: &mut Vec<u8>) -> Result<(), Memory>
+    requires { length session.old.table < 16 }
+    ensures { (layers : List LayerView) → OnOk result (IsStep layers (Put layer feature) session.old session.new out.old.items out.new.items) }
+{
+    let id = feature.id();
+    let taken = session.table.take(layer, feature)?;
+    write_put(out, layer, id, taken)
+}
+
+/// Publishes a generation of the features that stand.
+fn publish(session: &mut Session, out: &mut Vec<u8>) -> Result<(), Memory>
+    requires { session.old.number < 1 }
+    ensures { (layers : List LayerView) → OnOk result (IsStep layers Publish session.old session.new out.old.items out.new.items) }
+{
+    session.published = session.table.copy()?;
+    session.number += 1;
+    write_published(out, session.number)
+}
+
+/// Answers a query.
+fn ask(
+    alloc: Global,
+    layer: &Layer,
+    session: &mut Session,
+    lane: u8,
+    text: &Text,
+    out: &mut Vec<u8>,
+) -> Result<(), Memory>
+    requires lane { lane ≡ 0 }
+    requires ascii { IsAscii text.now }
+    requires layer { IsOfLayer layer.now.zoom session.old.published }
+    requires few { All (λ n. n ≤ 4096) session.old.asks }
+    ensures { OnOk result (IsStep (layer.now ∷ []) (Ask lane text.now) session.old session.new out.old.items out.new.items) }
+{
+    let reply = reply(
+        alloc,
+        layer,
+        &session.published,
+        session.number,
+        text.as_str(),
+    );
+    let place = session.asks[lane as usize];
+    write_reply(out, lane, place, &reply)?;
+    session.asks[lane as usize] = place + 1;
+    Ok(())
+}
+
+/// Answers a line.
+fn answer_line(
+    alloc: Global,
+    layer: &Layer,
+    session: &mut Session,
+    line: BodyLine,
+    out: &mut Vec<u8>,
+) -> Result<(), Memory>
+    requires { (left : List BodyLine) × IsReady layer.now.zoom (line ∷ left) session.old }
+    ensures { OnOk result (IsStep (layer.now ∷ []) line session.old session.new out.old.items out.new.items) }
+{
+    match line {
+        BodyLine::Put { layer, feature } => put(session, layer, feature, out),
+        BodyLine::Publish => publish(session, out),
+        BodyLine::Ask { lane, text } => ask(alloc, layer, session, lane, &text, out),
+    }
+}
+
+/// The text of the lines of a session with one layer.
+fn answer_round(alloc: Global, layer: &Layer, round: Round) -> Result<Vec<u8>, Memory>
+    requires lines { All (IsPlainLine layer.now.zoom) round }
+    requires few { are_few round ≡ true }
+    ensures { IfOk result (λ text. IsText (layer.now ∷ []) empty no_asks round text.items) }
+{
+    let mut session = Session {
+        table: FeatureTable::new(alloc),
+        published: FeatureTable::new(alloc),
+        number: 0,
+        asks: [0; 8],
+    };
+    let mut out = Vec::new(alloc);
+    for line in round.into_vec() {
+        answer_line(alloc, layer, &mut session, line, &mut out)?;
+    }
+    Ok(out)
+}
+
+/// The text of an accepted session; None where the bytes are none.
+pub fn answer(alloc: Global, bytes: &[u8]) -> Result<Option<Vec<u8>>, Memory>
+    ensures { IfOk result (λ o. MatchOption o (first_session bytes.now ≡ None)
+        (λ text. (layer : LayerView) × (body : List BodyLine) × (first_session bytes.now ≡ Some (layer, body)) × IsPlainText (layer ∷ []) (body ∷ []) text.items)) }
+{
+    match read_first(alloc, bytes) {
+        Ok((layer, round)) => Ok(Some(answer_round(alloc, &layer, round)?)),
+        Err(Refused::Fault(Why::NotYet)) => Ok(None),
+        Err(Refused::Memory) => Err(Memory),
+    }
+}
