@@ -1,6 +1,6 @@
 -- Texts that begin with others, and with the tokens of a run.
 use Rattle.std.specs.Prelude.{◌&&◌, ◌||◌, ◌==◌, bytes_eq}
-use Rattle.std.proofs.Common.{◌≡◌, ◌∙◌, ◌+◌, ◌-◌, ◌<◌, ◌≤◌, ℕ, suc, get_or, List, [], ◌∷◌, ◌++◌, length, take, drop, Option, None, Some, MatchOption, Bool, true, false, nat_eq, refl, sym, ap, arith, inl, inr, append_assoc, append-nil, length-append, take-append-drop}
+use Rattle.std.proofs.Common.{◌≡◌, ◌∙◌, ◌-◌, ◌<◌, ◌≤◌, ℕ, suc, get_or, List, [], ◌∷◌, ◌++◌, length, take, drop, Option, None, Some, MatchOption, Bool, true, false, nat_eq, refl, sym, ap, arith, inl, inr, append_assoc, append-nil, length-append, take-append-drop}
 use Rattle.std.proofs.Math.Seq.{take-append_seam, take-length, drop-append_seam}
 use Rattle.std.specs.Cmp.Lexicographic.{pointwise, bytes_decides}
 use Rattle.std.proofs.lemmas.Bool.{cases_Bool}

@@ -1,11 +1,10 @@
 -- What it means to be a link of a feature, and of a table.
-use Rattle.std.proofs.Common.{◌≡◌, ◌∙◌, ◌<◌, ◌≤◌, ℕ, Bool, true, false, cond, List, [], ◌∷◌, length, map, take, All, refl, sym, ap, subst, inl, inr, ⊎_elim, arith}
-use Rattle.std.specs.Prelude.{Contains, AllPairs, flat_map}
+use Rattle.std.proofs.Common.{◌≡◌, ℕ, true, cond, List, [], ◌∷◌, length, map, take, sym, subst, ⊎_elim}
+use Rattle.std.specs.Prelude.{Contains}
 use Rattle.std.proofs.lemmas.Bool.{cases_Bool}
-use Rattle.std.proofs.lemmas.List.Elements.{All-contains}
 use Rattle.geo_base.specs.TileView.{TileView}
 use Rattle.geo_base.specs.declared.link.Link.{Link}
-use Rattle.geo_base.proofs.Members.{member_here, member_there, member_cases, no_member, member_of_map, member_in_map, member_of_flat_map, member_in_flat_map}
+use Rattle.geo_base.proofs.Members.{member_here, member_cases, no_member, member_of_map, member_in_map, member_of_flat_map, member_in_flat_map}
 use Rattle.feature_reader.specs.declared.phrase.Phrase.{Phrase}
 use Rattle.feature_reader.specs.FeatureView.{FeatureView}
 use Rattle.feature_reader.specs.Table.{Table}

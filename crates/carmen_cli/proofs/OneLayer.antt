@@ -1,5 +1,5 @@
 -- In one layer the links on first tiles have the answer of all links.
-use Rattle.std.proofs.Common.{◌≡◌, ◌≢◌, ◌∙◌, ◌+◌, ◌<◌, ◌≤◌, ◌⊎◌, ℕ, suc, Bool, true, false, List, [], ◌∷◌, ◌++◌, length, map, take, drop, get_or, All, refl, sym, ap, subst, inl, inr, ⊎_elim, arith, Ordering, Less, Equal, Greater, nat_cmp, nat_lt, take-append-drop}
+use Rattle.std.proofs.Common.{◌≡◌, ◌∙◌, ◌+◌, ◌<◌, ◌⊎◌, ℕ, true, List, [], ◌∷◌, ◌++◌, length, take, drop, get_or, All, refl, sym, ap, subst, inl, inr, ⊎_elim, arith, Ordering, Less, Equal, Greater, nat_cmp, nat_lt, take-append-drop}
 use Rattle.std.specs.Prelude.{Contains, AllPairs, ◌&&◌, ◌||◌, ◌==◌}
 use Rattle.std.specs.Ordering.{ordering_then}
 use Rattle.std.proofs.lemmas.Bool.{and_parts, and_from, ltb-true, eq-eqb}
@@ -21,13 +21,13 @@ use Rattle.geo_base.proofs.BestFacts.{best_is_one, best_of_is_best}
 use Rattle.geo_base.proofs.MergeFacts.{best_of_best}
 use Rattle.geo_base.proofs.AnswerFacts.{same_target_equiv, best_is_answer}
 use Rattle.geo_base.proofs.ContextFacts.{context_tie}
-use Rattle.geo_base.proofs.Members.{member_here, member_there, member_cases, no_member, member_of_map, member_in_map, member_in_flat_map, pairs_head, pairs_tail}
+use Rattle.geo_base.proofs.Members.{member_here, member_cases, no_member, member_of_map, member_in_map, member_in_flat_map, pairs_head, pairs_tail}
 use Rattle.feature_reader.specs.declared.phrase.Phrase.{Phrase}
 use Rattle.feature_reader.specs.FeatureView.{FeatureView, IsFeature, tile_cmp}
 use Rattle.feature_reader.specs.Table.{Table, IsTable, comes_before}
 use Rattle.session_text.specs.QueryView.{QueryView}
 use Rattle.carmen_cli.specs.Links.{link_of, feature_links, links, first_links, singles, IsOfLayer}
-use Rattle.carmen_cli.proofs.LinkFacts.{IsLinkOf, entry_of_link, entry_of_first_link, member_from_link, first_link_is_link}
+use Rattle.carmen_cli.proofs.LinkFacts.{IsLinkOf, entry_of_link, member_from_link, first_link_is_link}
 
 -- ---- the order of links that differ in the tile alone
 

@@ -1,10 +1,9 @@
 -- Lines that are answered one after another.
 use Rattle.std.proofs.Common.{◌≡◌, ◌∙◌, ◌+◌, ◌<◌, ◌≤◌, ℕ, zero, suc, Bool, cond, true, false, List, [], ◌∷◌, ◌++◌, length, All, refl, sym, ap, subst, arith, append_assoc, length-set}
-use Rattle.std.specs.Prelude.{◌&&◌, nat_le, count_by, filter, replicate, slice_index, slice_set, not, IsAscii}
-use Rattle.std.proofs.lemmas.Bool.{cases_Bool, and_parts, leb-true}
+use Rattle.std.specs.Prelude.{◌&&◌, nat_le, count_by, replicate, slice_index, slice_set, not}
+use Rattle.std.proofs.lemmas.Bool.{and_parts, leb-true}
 use Rattle.std.proofs.lemmas.List.Elements.{All-cons, All-head, All-tail, All-weaker, All-filter, All-set}
 use Rattle.std.proofs.lemmas.List.Sums.{length-filter, count_by-le-length, sum_by-cons}
-use Rattle.geo_base.specs.TileView.{TileView}
 use Rattle.feature_reader.specs.Layer.{LayerView}
 use Rattle.feature_reader.specs.FeatureView.{FeatureView}
 use Rattle.feature_reader.specs.Table.{Table, is_at, comes_before, without, inserted, put}
@@ -12,7 +11,7 @@ use Rattle.session_text.specs.declared.body.BodyLine.{BodyLine}
 use Rattle.session_text.specs.declared.body.BodyLine.TheVariants.{Put, Publish, Ask}
 use Rattle.session_text.specs.FirstSession.{is_put, is_publish, is_ask, are_few}
 use Rattle.carmen_cli.specs.Links.{IsOfLayer}
-use Rattle.carmen_cli.specs.Plain.{Built, Places, IsLineText, IsText, after_line, places_after, empty, no_asks}
+use Rattle.carmen_cli.specs.Plain.{Built, Places, IsText, after_line, places_after, empty, no_asks}
 use Rattle.carmen_cli.specs.PlainLines.{IsPlainLine, built_of, IsReady, IsStep}
 use Rattle.carmen_cli.specs.declared.respond.Session.{Session}
 

@@ -3,7 +3,6 @@ use Rattle.std.specs.Prelude.{ℕ, ◌+◌, ◌≡◌, ◌⊎◌, List, [], ◌�
 use Rattle.feature_reader.specs.Layer.{LayerView}
 use Rattle.feature_reader.specs.Table.{Table, put, put_answer}
 use Rattle.session_text.specs.Reply.{ask_text, put_text, published_text}
-use Rattle.session_text.specs.declared.reply.Reply.{Reply}
 use Rattle.session_text.specs.declared.reply.Reply.TheVariants.{Memory}
 use Rattle.session_text.specs.declared.body.BodyLine.{BodyLine}
 use Rattle.session_text.specs.declared.body.BodyLine.TheVariants.{Put, Publish, Ask}

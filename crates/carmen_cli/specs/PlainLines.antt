@@ -1,11 +1,11 @@
 -- What holds of the lines of an accepted session, and what one of them does to what stands.
-use Rattle.std.specs.Prelude.{◌≡◌, ℕ, ◌+◌, ◌<◌, ◌≤◌, List, ◌∷◌, ◌++◌, length, count_by, All, IsAscii, ⊤}
+use Rattle.std.specs.Prelude.{◌≡◌, ℕ, ◌+◌, ◌≤◌, List, ◌++◌, length, count_by, All, IsAscii, ⊤}
 use Rattle.feature_reader.specs.Layer.{LayerView}
 use Rattle.session_text.specs.declared.body.BodyLine.{BodyLine}
 use Rattle.session_text.specs.declared.body.BodyLine.TheVariants.{Put, Publish, Ask}
 use Rattle.session_text.specs.FirstSession.{is_put, is_publish, is_ask}
 use Rattle.carmen_cli.specs.Links.{IsOfLayer}
-use Rattle.carmen_cli.specs.Plain.{Built, Places, IsLineText, after_line, places_after}
+use Rattle.carmen_cli.specs.Plain.{Built, IsLineText, after_line, places_after}
 use Rattle.carmen_cli.specs.declared.respond.Session.{Session}
 
 -- a line of a session with one layer of this zoom

@@ -1,4 +1,4 @@
-use Rattle.std.proofs.Common.{◌≡◌, ◌∙◌, ◌-◌, ◌≤◌, ◌++◌, ℕ, List, take, length, sym, ap, arith}
+use Rattle.std.proofs.Common.{◌≡◌, ◌∙◌, ◌-◌, ◌++◌, ℕ, List, take, length, sym, ap, arith}
 use Rattle.std.specs.Prelude.{flat_map}
 use Rattle.geo_base.specs.declared.link.Link.{Link}
 use Rattle.carmen_cli.specs.Match.{numbers_from, runs_from}

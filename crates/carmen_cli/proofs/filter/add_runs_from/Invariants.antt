@@ -1,4 +1,4 @@
-use Rattle.std.proofs.Common.{◌≡◌, ◌+◌, ◌-◌, ◌++◌, ℕ, [], ◌∷◌, take}
+use Rattle.std.proofs.Common.{◌≡◌, ◌+◌, ◌-◌, ◌++◌, ℕ, take}
 use Rattle.std.specs.Prelude.{flat_map}
 use Rattle.carmen_cli.specs.Match.{numbers_from}
 use Rattle.carmen_cli.specs.Links.{run_links}

@@ -1,6 +1,5 @@
-use Rattle.std.proofs.Common.{◌≡◌, ◌∙◌, ◌∷◌, [], List, refl, sym, ap, subst, length, rules}
+use Rattle.std.proofs.Common.{◌≡◌, ◌∙◌, ◌∷◌, [], List, sym, ap, subst, length, rules}
 use Rattle.geo_base.specs.declared.link.Link.{Link}
-use Rattle.geo_base.specs.declared.answer.Answer.{Answer}
 use Rattle.geo_base.specs.Context.{Agree}
 use Rattle.geo_base.specs.Order.{context_cmp, same_target}
 use Rattle.geo_base.specs.Best.{best_of}

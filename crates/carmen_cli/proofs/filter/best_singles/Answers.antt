@@ -1,4 +1,4 @@
-use Rattle.std.proofs.Common.{◌≡◌, ◌∙◌, ◌++◌, ◌∷◌, [], ◌<◌, List, length, ap, arith, rules}
+use Rattle.std.proofs.Common.{◌∙◌, ◌++◌, ◌∷◌, [], ◌<◌, List, length, ap, rules}
 use Rattle.geo_base.specs.declared.link.Link.{Link}
 use Rattle.geo_base.specs.Order.{context_cmp, same_target}
 use Rattle.geo_base.specs.Best.{best_of}

@@ -1,6 +1,6 @@
 use Rattle.std.proofs.Common.{◌≡◌, ◌∙◌, ◌++◌, ℕ, List, refl, sym, ap, true, false, length, rules}
 use Rattle.std.specs.Prelude.{◌&&◌, ◌||◌, ◌==◌}
-use Rattle.carmen_cli.specs.Match.{run_text, matches}
+use Rattle.carmen_cli.specs.Match.{run_text}
 use Rattle.carmen_cli.proofs.Begins.{matches-found, matches-not_found}
 use Rattle.carmen_cli.proofs.matching.is_match.Goals as goal
 

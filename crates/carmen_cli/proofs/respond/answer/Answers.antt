@@ -1,6 +1,3 @@
-use Rattle.std.proofs.Common.{◌≡◌, ◌∷◌, [], List, sym, subst, append-nil}
-use Rattle.session_text.specs.declared.body.BodyLine.{BodyLine}
-use Rattle.carmen_cli.specs.Plain.{IsText, empty, no_asks}
 use Rattle.carmen_cli.proofs.Accepted.{accepted}
 use Rattle.carmen_cli.proofs.respond.answer.Goals as goal
 

@@ -1,6 +1,5 @@
-use Rattle.std.proofs.Common.{◌≡◌, ◌∙◌, ◌∷◌, ◌++◌, [], List, length, All, true, refl, sym, ap, subst, arith, append-nil}
+use Rattle.std.proofs.Common.{◌≡◌, ◌∙◌, ◌∷◌, [], length, All, true, refl, sym, ap, subst, arith, append-nil}
 use Rattle.std.specs.Vec.Iter.{into_iter_items}
-use Rattle.session_text.specs.declared.body.BodyLine.{BodyLine}
 use Rattle.session_text.specs.FirstSession.{are_few}
 use Rattle.carmen_cli.specs.Plain.{IsText, empty, no_asks}
 use Rattle.carmen_cli.specs.PlainLines.{IsReady, IsPlainLine}
