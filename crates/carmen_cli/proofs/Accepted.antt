@@ -15,7 +15,7 @@ use Rattle.feature_reader.specs.declared.feature.FeatureFault.{FeatureFault}
 use Rattle.feature_reader.specs.declared.feature.FeatureFault.TheVariants as fault
 use Rattle.session_text.specs.declared.body.BodyLine.{BodyLine}
 use Rattle.session_text.specs.declared.body.BodyLine.TheVariants.{Put, Publish, Ask}
-use Rattle.session_text.specs.FirstSession.{plain_feature, first_put, first_ask, first_line, first_body, with_body, first_layer, first_lines, first_session, most_bytes, all_lines, are_few, is_readable, front, last}
+use Rattle.session_text.specs.FirstSession.{plain_feature, put_of, ask_of, line_of, body_of, with_body, layer_of, session_of_lines, session_of, byte_limit, all_lines, are_few, is_readable, front, last}
 use Rattle.carmen_cli.specs.PlainLines.{IsPlainLine}
 
 -- ---- steps that gave something
@@ -111,40 +111,40 @@ ascii [] e i = omega arith
 ascii (b ∷ bs) e zero = ltb-true b 128 (and_parts (nat_lt b 128) (is_ascii bs) e).0
 ascii (b ∷ bs) e (suc i) = ascii bs (and_parts (nat_lt b 128) (is_ascii bs) e).1 i
 
-ask_plain : (zoom : ℕ) (line : List ℕ) (x : BodyLine) → first_ask line ≡ Some x → IsPlainLine zoom x
+ask_plain : (zoom : ℕ) (line : List ℕ) (x : BodyLine) → ask_of line ≡ Some x → IsPlainLine zoom x
 ask_plain zoom line x e =
     let (tested, is) = if_some (bytes_eq (take 6 line) (codes "ask 0 ") && (is_ascii (drop 6 line) && is_readable (drop 6 line))) (Some (Ask 0 (drop 6 line))) x e in
     let (marked, fine) = and_parts (bytes_eq (take 6 line) (codes "ask 0 ")) (is_ascii (drop 6 line) && is_readable (drop 6 line)) tested in
     let same : Ask 0 (drop 6 line) ≡ x = cc is in
     subst (IsPlainLine zoom) same (refl, ascii (drop 6 line) (and_parts (is_ascii (drop 6 line)) (is_readable (drop 6 line)) fine).0)
 
-put_plain : (zoom : ℕ) (line : List ℕ) (x : BodyLine) → first_put zoom line ≡ Some x → IsPlainLine zoom x
+put_plain : (zoom : ℕ) (line : List ℕ) (x : BodyLine) → put_of zoom line ≡ Some x → IsPlainLine zoom x
 put_plain zoom line x e =
     let (tested, is) = if_some (bytes_eq (take 6 line) (codes "put 0 ") && is_ascii (drop 6 line)) (option_and_then (λ d. option_map (λ f. Put 0 f) (plain_feature zoom d)) (data_of (drop 6 line))) x e in
     let (d, is_d, put) = then_some (data_of (drop 6 line)) (λ d. option_map (λ f. Put 0 f) (plain_feature zoom d)) x is in
     let (f, is_f, same) = map_some (plain_feature zoom d) (λ f. Put 0 f) x put in
     subst (IsPlainLine zoom) same (refl, plain_zoom zoom d f is_f)
 
-line_plain : (zoom : ℕ) (line : List ℕ) (x : BodyLine) → first_line zoom line ≡ Some x → IsPlainLine zoom x
+line_plain : (zoom : ℕ) (line : List ℕ) (x : BodyLine) → line_of zoom line ≡ Some x → IsPlainLine zoom x
 line_plain zoom line x e = by (bytes_eq line (codes "publish")) (bytes_eq (take 4 line) (codes "ask ")) e
   where
-    by : (a b : Bool) → (if a then Some Publish else if b then first_ask line else first_put zoom line) ≡ Some x → IsPlainLine zoom x
+    by : (a b : Bool) → (if a then Some Publish else if b then ask_of line else put_of zoom line) ≡ Some x → IsPlainLine zoom x
     by true b e = let same : Publish ≡ x = cc e in subst (IsPlainLine zoom) same tt
     by false true e = ask_plain zoom line x e
     by false false e = put_plain zoom line x e
 
 -- the body of an accepted session is of plain lines, and few
-pub accepted : (bytes : List ℕ) (layer : LayerView) (body : List BodyLine) → first_session bytes ≡ Some (layer, body) → All (IsPlainLine layer.zoom) body × (are_few body ≡ true)
-accepted bytes layer body e = by (all_lines bytes) (if_some (nat_lt (length bytes) most_bytes) (first_lines (all_lines bytes)) (layer, body) e).1
+pub accepted : (bytes : List ℕ) (layer : LayerView) (body : List BodyLine) → session_of bytes ≡ Some (layer, body) → All (IsPlainLine layer.zoom) body × (are_few body ≡ true)
+accepted bytes layer body e = by (all_lines bytes) (if_some (nat_lt (length bytes) byte_limit) (session_of_lines (all_lines bytes)) (layer, body) e).1
   where
-    by : (lines : List (List ℕ)) → first_lines lines ≡ Some (layer, body) → All (IsPlainLine layer.zoom) body × (are_few body ≡ true)
+    by : (lines : List (List ℕ)) → session_of_lines lines ≡ Some (layer, body) → All (IsPlainLine layer.zoom) body × (are_few body ≡ true)
     by [] e = absurd (cc e)
     by (title ∷ []) e = absurd (cc e)
     by (title ∷ second ∷ lines) e =
-        let (titled, is) = if_some (bytes_eq title (codes "carmen 1")) (option_and_then (λ layer. option_and_then (with_body layer) (first_body layer.zoom lines)) (first_layer second)) (layer, body) e in
-        let (l, is_l, rest) = then_some (first_layer second) (λ layer. option_and_then (with_body layer) (first_body layer.zoom lines)) (layer, body) is in
-        let (b, is_b, whole) = then_some (first_body l.zoom lines) (with_body l) (layer, body) rest in
+        let (titled, is) = if_some (bytes_eq title (codes "carmen 1")) (option_and_then (λ layer. option_and_then (with_body layer) (body_of layer.zoom lines)) (layer_of second)) (layer, body) e in
+        let (l, is_l, rest) = then_some (layer_of second) (λ layer. option_and_then (with_body layer) (body_of layer.zoom lines)) (layer, body) is in
+        let (b, is_b, whole) = then_some (body_of l.zoom lines) (with_body l) (layer, body) rest in
         let (few, same) = if_some (are_few b) (Some (l, b)) (layer, body) whole in
-        let (ended, each) = if_some (bytes_eq (last lines) (codes "end")) (each_of (first_line l.zoom) (front lines)) b is_b in
+        let (ended, each) = if_some (bytes_eq (last lines) (codes "end")) (each_of (line_of l.zoom) (front lines)) b is_b in
         let pair : (l, b) ≡ (layer, body) = cc same in
-        subst (λ (p : LayerView × List BodyLine). All (IsPlainLine p.0.zoom) p.1 × (are_few p.1 ≡ true)) pair (each_all (IsPlainLine l.zoom) (first_line l.zoom) (front lines) b (line_plain l.zoom) each, few)
+        subst (λ (p : LayerView × List BodyLine). All (IsPlainLine p.0.zoom) p.1 × (are_few p.1 ≡ true)) pair (each_all (IsPlainLine l.zoom) (line_of l.zoom) (front lines) b (line_plain l.zoom) each, few)

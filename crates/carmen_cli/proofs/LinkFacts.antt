@@ -10,7 +10,7 @@ use Rattle.feature_reader.specs.FeatureView.{FeatureView}
 use Rattle.feature_reader.specs.Table.{Table}
 use Rattle.session_text.specs.QueryView.{QueryView}
 use Rattle.carmen_cli.specs.Match.{matches, runs}
-use Rattle.carmen_cli.specs.Links.{link_of, run_links, phrase_links, feature_links, links, first_links}
+use Rattle.carmen_cli.specs.Links.{link_of, run_links, phrase_links, feature_links, links, links_on_first_tiles}
 
 -- the link says that a run matches a phrase of the feature, at one of these tiles
 pub record IsLinkOf (q : QueryView) (layer : ℕ) (f : FeatureView) (tiles : List TileView) (l : Link) : Type 0 where
@@ -51,7 +51,7 @@ entry_of_link table q l h =
     let by_entry = member_of_flat_map (λ entry. feature_links q entry.0 entry.1 entry.1.tiles) table l h in
     (by_entry.0, by_entry.1, link_from_member q by_entry.0.0 by_entry.0.1 by_entry.0.1.tiles l by_entry.2)
 
-pub entry_of_first_link : (table : Table) (q : QueryView) (l : Link) → Contains (first_links table q) l → (entry : ℕ × FeatureView) × Contains table entry × IsLinkOf q entry.0 entry.1 (take 1 entry.1.tiles) l
+pub entry_of_first_link : (table : Table) (q : QueryView) (l : Link) → Contains (links_on_first_tiles table q) l → (entry : ℕ × FeatureView) × Contains table entry × IsLinkOf q entry.0 entry.1 (take 1 entry.1.tiles) l
 entry_of_first_link table q l h =
     let by_entry = member_of_flat_map (λ entry. feature_links q entry.0 entry.1 (take 1 entry.1.tiles)) table l h in
     (by_entry.0, by_entry.1, link_from_member q by_entry.0.0 by_entry.0.1 (take 1 by_entry.0.1.tiles) l by_entry.2)
@@ -62,7 +62,7 @@ first_is_one [] t h = h
 first_is_one (u ∷ us) t h = ⊎_elim (λ e. subst (λ x. Contains (u ∷ us) x) e (member_here u us)) (λ none. absurd (no_member t none)) (member_cases u t [] h)
 
 -- a link on a first tile is a link
-pub first_link_is_link : (table : Table) (q : QueryView) (l : Link) → Contains (first_links table q) l → Contains (links table q) l
+pub first_link_is_link : (table : Table) (q : QueryView) (l : Link) → Contains (links_on_first_tiles table q) l → Contains (links table q) l
 first_link_is_link table q l h =
     let (entry, there, is) = entry_of_first_link table q l h in
     member_in_flat_map (λ e. feature_links q e.0 e.1 e.1.tiles) table entry l there

@@ -26,7 +26,7 @@ use Rattle.feature_reader.specs.declared.phrase.Phrase.{Phrase}
 use Rattle.feature_reader.specs.FeatureView.{FeatureView, IsFeature, tile_cmp}
 use Rattle.feature_reader.specs.Table.{Table, IsTable, comes_before}
 use Rattle.session_text.specs.QueryView.{QueryView}
-use Rattle.carmen_cli.specs.Links.{link_of, feature_links, links, first_links, singles, IsOfLayer}
+use Rattle.carmen_cli.specs.Links.{link_of, feature_links, links, links_on_first_tiles, singles, IsOfLayer}
 use Rattle.carmen_cli.proofs.LinkFacts.{IsLinkOf, entry_of_link, member_from_link, first_link_is_link}
 
 -- ---- the order of links that differ in the tile alone
@@ -134,7 +134,7 @@ module _ (zoom : ℕ) (table : Table) (q : QueryView) (rises : IsTable table) (f
   }
 
   -- a link on the first tile of the same feature is the same or comes before it
-  first_before : (l : Link) → Contains (links table q) l → (m : Link) × Contains (first_links table q) m × (same_target (m ∷ []) (l ∷ []) ≡ true) × ((m ≡ l) ⊎ IsBefore (m ∷ []) (l ∷ []))
+  first_before : (l : Link) → Contains (links table q) l → (m : Link) × Contains (links_on_first_tiles table q) m × (same_target (m ∷ []) (l ∷ []) ≡ true) × ((m ≡ l) ⊎ IsBefore (m ∷ []) (l ∷ []))
   first_before l h =
       let (entry, there, is) = entry_of_link table q l h in
       let fine = All-contains (λ e. IsFeature e.1) table entry features there in
@@ -159,18 +159,18 @@ module _ (zoom : ℕ) (table : Table) (q : QueryView) (rises : IsTable table) (f
       (λ full. inr (full.0, All-weaker (λ b. IsBefore b (m ∷ [])) (λ b. IsBefore b (l ∷ [])) (λ b first. goes b first) answer full.1))
       settled
 
-  single_is_context : (compat : Compat) (c : List Link) → Contains (singles (first_links table q)) c → IsContext compat (links table q) c
+  single_is_context : (compat : Compat) (c : List Link) → Contains (singles (links_on_first_tiles table q)) c → IsContext compat (links table q) c
   single_is_context compat c h =
-      let (l, in_l, is) = member_of_map (λ (x : Link). x ∷ []) (first_links table q) c h in
+      let (l, in_l, is) = member_of_map (λ (x : Link). x ∷ []) (links_on_first_tiles table q) c h in
       subst (IsContext compat (links table q)) is (is_context compat l (first_link_is_link table q l in_l))
 
   ties : (compat : Compat) (c d : List Link) → IsContext compat (links table q) c → IsContext compat (links table q) d → context_cmp c d ≡ Equal → c ≡ d
   ties compat c d is_c is_d e = context_tie (links table q) agree c d is_c.chosen is_d.chosen e
 
   -- the best of the links on first tiles is the answer of all links
-  pub answer_is : (compat : Compat) → best_of context_cmp same_target 40 (singles (first_links table q)) ≡ best compat (links table q)
+  pub answer_is : (compat : Compat) → best_of context_cmp same_target 40 (singles (links_on_first_tiles table q)) ≡ best compat (links table q)
   answer_is compat =
-      let firsts = singles (first_links table q) in
+      let firsts = singles (links_on_first_tiles table q) in
       let found = best_of context_cmp same_target 40 firsts in
       let of_firsts : IsBest context_cmp same_target 40 (Contains firsts) found = best_of_is_best context_cmp_total same_target_equiv 40 firsts (λ c d p r e. ties compat c d (single_is_context compat c p) (single_is_context compat d r) e) in
       let of_all : IsBest context_cmp same_target 40 (IsContext compat (links table q)) found = record {
@@ -181,14 +181,14 @@ module _ (zoom : ℕ) (table : Table) (q : QueryView) (rises : IsTable table) (f
         complete = λ c is.
             let (l, in_l, alone) = single compat c is in
             let (m, in_m, same, order) = first_before l in_l in
-            let settled = of_firsts.complete (m ∷ []) (member_in_map (λ (x : Link). x ∷ []) (first_links table q) m in_m) in
+            let settled = of_firsts.complete (m ∷ []) (member_in_map (λ (x : Link). x ∷ []) (links_on_first_tiles table q) m in_m) in
             subst (IsSettled context_cmp same_target 40 found) (sym alone)
             (⊎_elim (λ e. subst (λ x. IsSettled context_cmp same_target 40 found (x ∷ [])) e settled) (λ less. settled_later found m l same less settled) order);
       } in
       best_is_one context_cmp_total same_target_equiv (ties compat) found (best compat (links table q)) of_all (best_is_answer compat (links table q) agree)
 
   -- the links on first tiles agree too
-  pub first_agree : Agree (first_links table q)
+  pub first_agree : Agree (links_on_first_tiles table q)
   first_agree = record {
     zooms = λ a b in_a in_b layer. agree.zooms a b (first_link_is_link table q a in_a) (first_link_is_link table q b in_b) layer;
     scores = λ a b in_a in_b layer id. agree.scores a b (first_link_is_link table q a in_a) (first_link_is_link table q b in_b) layer id;

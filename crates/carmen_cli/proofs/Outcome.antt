@@ -6,23 +6,23 @@ use Rattle.std.proofs.Math.Seq.{take-append_seam}
 use Rattle.std.specs.Io.KnownBytes.{Consumes, Appends, IsAtEnd}
 use Rattle.feature_reader.specs.Layer.{LayerView}
 use Rattle.feature_reader.specs.Table.{put_answer}
-use Rattle.session_text.specs.Reply.{ask_text, put_text, published_text}
+use Rattle.session_text.specs.Reply.{reply_text, put_text, published_text}
 use Rattle.session_text.specs.declared.reply.Reply.TheVariants as reply
 use Rattle.session_text.specs.declared.body.BodyLine.{BodyLine}
 use Rattle.session_text.specs.declared.body.BodyLine.TheVariants.{Put, Publish, Ask}
 use Rattle.session_text.specs.declared.status.Status.{Status}
 use Rattle.session_text.specs.declared.status.Status.TheVariants.{Done, Usage, BadLine, ReadFault, WriteFault, Memory}
 use Rattle.session_text.specs.declared.status.Why.TheVariants.{NotYet}
-use Rattle.session_text.specs.FirstSession.{first_session}
+use Rattle.session_text.specs.FirstSession.{session_of}
 use Rattle.carmen_cli.specs.Plain.{Built, Places, IsLineText, IsText, IsPlainText, after_line, places_after, lines_of_rounds, empty, no_asks}
 use Rattle.carmen_cli.specs.Reading.{Reading, unended, reading, whole_reading}
-use Rattle.carmen_cli.specs.TopCall.{Says, Answers, Decides, IsDecided}
+use Rattle.carmen_cli.specs.TopCall.{Says, EndsAs, Decides, IsDecided}
 
 -- each line has a text
 pub some_line_text : (layers : List LayerView) (built : Built) (places : Places) (line : BodyLine) → (text : List ℕ) × IsLineText layers built places line text
 some_line_text layers built places (Put layer f) = (put_text layer f.id (put_answer built.table layer f), refl)
 some_line_text layers built places Publish = (published_text (built.last.number + 1), refl)
-some_line_text layers built places (Ask lane text) = (ask_text lane (slice_index places lane) reply.Memory, inr refl)
+some_line_text layers built places (Ask lane text) = (reply_text lane (slice_index places lane) reply.Memory, inr refl)
 
 -- so have all lines
 pub some_text : (layers : List LayerView) (built : Built) (places : Places) (lines : List BodyLine) → (text : List ℕ) × IsText layers built places lines text
@@ -37,15 +37,15 @@ pub nothing_yet : (read : Reading) → Says Memory read []
 nothing_yet read = let t = some_text read.layers empty no_asks (lines_of_rounds read.rounds) in (t.0, t.1, (t.0, refl))
 
 -- all was taken: the reading is that of the whole
-pub whole : (limit : ℕ) (taken : List ℕ) → reading limit (nat_lt (length taken) limit) taken ≡ whole_reading (first_session taken)
-whole limit taken = elim (nat_lt (length taken) limit) as (λ b. (nat_lt (length taken) limit ≡ b) → reading limit b taken ≡ whole_reading (first_session taken)) [
+pub whole : (limit : ℕ) (taken : List ℕ) → reading limit (nat_lt (length taken) limit) taken ≡ whole_reading (session_of taken)
+whole limit taken = elim (nat_lt (length taken) limit) as (λ b. (nat_lt (length taken) limit ≡ b) → reading limit b taken ≡ whole_reading (session_of taken)) [
   | true ↦ λ e. refl
   | false ↦ λ e. rw (le-leb _ _ (ltb-false _ _ e)) refl
 ] refl
 
 -- all was taken, and this was written
 pub all_taken : (limit : ℕ) (a b c d : Option (List ℕ)) (taken put : List ℕ) (status : Status) → Consumes a b taken → length taken ≤ limit → (length taken ≡ limit) ⊎ IsAtEnd b → Appends c d put
-    → Says status (whole_reading (first_session taken)) put → Answers limit a b c d status
+    → Says status (whole_reading (session_of taken)) put → EndsAs limit a b c d status
 all_taken limit a b c d taken put status took within all wrote says = (
   taken,
   put,
@@ -77,7 +77,7 @@ all_there limit bytes taken after false split within at_end =
     ] refl
 
 -- without a fault the status is decided
-pub decided : (limit : ℕ) (a b c d : Option (List ℕ)) (status : Status) → Answers limit a b c d status → (status ≡ Usage → ⊥) → (status ≡ ReadFault → ⊥) → (status ≡ WriteFault → ⊥) → IsDecided limit a status
+pub decided : (limit : ℕ) (a b c d : Option (List ℕ)) (status : Status) → EndsAs limit a b c d status → (status ≡ Usage → ⊥) → (status ≡ ReadFault → ⊥) → (status ≡ WriteFault → ⊥) → IsDecided limit a status
 decided limit None b c d status answers u r w = tt
 decided limit (Some bytes) None c d status answers u r w = absurd answers.3.took
 decided limit (Some bytes) (Some after) c d Usage answers u r w = absurd (u refl)

@@ -13,7 +13,7 @@ use Rattle.session_text.specs.FirstSession.{is_put, is_publish, is_ask, are_few}
 use Rattle.carmen_cli.specs.Links.{IsOfLayer}
 use Rattle.carmen_cli.specs.Plain.{Built, Places, IsText, after_line, places_after, empty, no_asks}
 use Rattle.carmen_cli.specs.PlainLines.{IsPlainLine, built_of, IsReady, IsStep}
-use Rattle.carmen_cli.specs.declared.respond.Session.{Session}
+use Rattle.carmen_cli.specs.declared.respond.Standing.{Standing}
 
 -- ---- puts
 
@@ -74,7 +74,7 @@ asks_after places lane left within all =
     let here : slice_index places lane + suc left ≤ 4096 = all lane 0 within in
     All-set (λ n. n + left ≤ 4096) places lane (slice_index places lane + 1) (omega (arith, here)) (All-weaker (λ n. n + suc left ≤ 4096) (λ n. n + left ≤ 4096) (λ n h. omega (arith, h)) places all)
 
-pub ready_after : (zoom : ℕ) (layers : List LayerView) (line : BodyLine) (left : List BodyLine) (old new : Session) (out out_after : List ℕ) → length old.asks ≡ 8 → IsReady zoom (line ∷ left) old → IsStep layers line old new out out_after → IsReady zoom left new
+pub ready_after : (zoom : ℕ) (layers : List LayerView) (line : BodyLine) (left : List BodyLine) (old new : Standing) (out out_after : List ℕ) → length old.asks ≡ 8 → IsReady zoom (line ∷ left) old → IsStep layers line old new out out_after → IsReady zoom left new
 ready_after zoom layers (Put layer f) left old new out out_after eight is step =
     let table : new.table ≡ put old.table layer f = ap (λ (b : Built). b.table) step.built in
     let published : new.published ≡ old.published = ap (λ (b : Built). b.last.table) step.built in
@@ -116,17 +116,17 @@ ready_after zoom layers (Ask lane text) left old new out out_after eight is step
 -- ---- the text so far
 
 -- whatever text the lines that are left have, all lines have it behind what was written
-abbrev pub Goes : List LayerView → List BodyLine → List BodyLine → Session → List ℕ → Type 0
+abbrev pub Goes : List LayerView → List BodyLine → List BodyLine → Standing → List ℕ → Type 0
 Goes layers all left session out = (more : List ℕ) → IsText layers (built_of session) session.asks left more → IsText layers empty no_asks all (out ++ more)
 
-pub goes_after : (layers : List LayerView) (all left : List BodyLine) (line : BodyLine) (old new : Session) (out out_after : List ℕ) → IsStep layers line old new out out_after → Goes layers all (line ∷ left) old out → Goes layers all left new out_after
+pub goes_after : (layers : List LayerView) (all left : List BodyLine) (line : BodyLine) (old new : Standing) (out out_after : List ℕ) → IsStep layers line old new out out_after → Goes layers all (line ∷ left) old out → Goes layers all left new out_after
 goes_after layers all left line old new out out_after step goes more text =
     let behind : IsText layers (after_line (built_of old) line) (places_after old.asks line) left more = subst (λ (p : Places). IsText layers (after_line (built_of old) line) p left more) step.places (subst (λ (b : Built). IsText layers b new.asks left more) step.built text) in
     let whole = goes (step.text ++ more) (step.text, more, refl, step.allowed, behind) in
     subst (IsText layers empty no_asks all) (sym (ap (λ o. o ++ more) step.appended ∙ append_assoc out step.text more)) whole
 
 -- at the start
-pub ready_at_first : (zoom : ℕ) (lines : List BodyLine) (s : Session) → s.table ≡ [] → s.published ≡ [] → s.number ≡ 0 → s.asks ≡ no_asks → All (IsPlainLine zoom) lines → are_few lines ≡ true → IsReady zoom lines s
+pub ready_at_first : (zoom : ℕ) (lines : List BodyLine) (s : Standing) → s.table ≡ [] → s.published ≡ [] → s.number ≡ 0 → s.asks ≡ no_asks → All (IsPlainLine zoom) lines → are_few lines ≡ true → IsReady zoom lines s
 ready_at_first zoom lines s table published number asks plain few =
     let parts = and_parts (nat_le (count_by is_put lines) 16) (nat_le (count_by is_publish lines) 1 && nat_le (count_by is_ask lines) 4096) few in
     let more = and_parts (nat_le (count_by is_publish lines) 1) (nat_le (count_by is_ask lines) 4096) parts.1 in

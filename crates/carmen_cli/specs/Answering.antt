@@ -11,6 +11,7 @@ use Rattle.session_text.specs.declared.reply.Reply.{Reply}
 use Rattle.session_text.specs.declared.reply.Reply.TheVariants.{Found, Unreadable}
 use Rattle.carmen_cli.specs.Links.{links}
 
+-- there are two layers, and they are compatible
 abbrev pub both_compatible : Option LayerView → Option LayerView → Bool
 both_compatible None b = false
 both_compatible (Some a) None = false

@@ -29,8 +29,8 @@ abbrev pub links : Table → QueryView → List Link
 links table q = flat_map (λ entry. feature_links q entry.0 entry.1 entry.1.tiles) table
 
 -- those on the first tile of their feature
-abbrev pub first_links : Table → QueryView → List Link
-first_links table q = flat_map (λ entry. feature_links q entry.0 entry.1 (take 1 entry.1.tiles)) table
+abbrev pub links_on_first_tiles : Table → QueryView → List Link
+links_on_first_tiles table q = flat_map (λ entry. feature_links q entry.0 entry.1 (take 1 entry.1.tiles)) table
 
 -- each link as a context of its own
 abbrev pub singles : List Link → List (List Link)

@@ -2,7 +2,7 @@
 use Rattle.std.specs.Prelude.{ℕ, ◌+◌, ◌≡◌, ◌⊎◌, List, [], ◌∷◌, ◌++◌, replicate, slice_index, slice_set}
 use Rattle.feature_reader.specs.Layer.{LayerView}
 use Rattle.feature_reader.specs.Table.{Table, put, put_answer}
-use Rattle.session_text.specs.Reply.{ask_text, put_text, published_text}
+use Rattle.session_text.specs.Reply.{reply_text, put_text, published_text}
 use Rattle.session_text.specs.declared.reply.Reply.TheVariants.{Memory}
 use Rattle.session_text.specs.declared.body.BodyLine.{BodyLine}
 use Rattle.session_text.specs.declared.body.BodyLine.TheVariants.{Put, Publish, Ask}
@@ -27,9 +27,11 @@ after_line built (Ask lane text) = built
 abbrev pub Places : Type 0
 Places = List ℕ
 
+-- no lane has asked
 abbrev pub no_asks : Places
 no_asks = replicate 8 0
 
+-- the counts after a line: an ask counts on its lane
 abbrev pub places_after : Places → BodyLine → Places
 places_after places (Put layer f) = places
 places_after places Publish = places
@@ -40,7 +42,7 @@ abbrev pub IsLineText : List LayerView → Built → Places → BodyLine → Lis
 IsLineText layers built places (Put layer f) out = out ≡ put_text layer f.id (put_answer built.table layer f)
 IsLineText layers built places Publish out = out ≡ published_text (built.last.number + 1)
 IsLineText layers built places (Ask lane text) out =
-    (out ≡ ask_text lane (slice_index places lane) (reply_to layers built.last text)) ⊎ (out ≡ ask_text lane (slice_index places lane) Memory)
+    (out ≡ reply_text lane (slice_index places lane) (reply_to layers built.last text)) ⊎ (out ≡ reply_text lane (slice_index places lane) Memory)
 
 -- the text that these lines may be answered with from this state on: the texts of the lines, in order
 abbrev pub IsText : List LayerView → Built → Places → List BodyLine → List ℕ → Type 0

@@ -6,7 +6,7 @@ use Rattle.session_text.specs.declared.body.BodyLine.TheVariants.{Put, Publish, 
 use Rattle.session_text.specs.FirstSession.{is_put, is_publish, is_ask}
 use Rattle.carmen_cli.specs.Links.{IsOfLayer}
 use Rattle.carmen_cli.specs.Plain.{Built, IsLineText, after_line, places_after}
-use Rattle.carmen_cli.specs.declared.respond.Session.{Session}
+use Rattle.carmen_cli.specs.declared.respond.Standing.{Standing}
 
 -- a line of a session with one layer of this zoom
 abbrev pub IsPlainLine : ℕ → BodyLine → Type 0
@@ -15,11 +15,11 @@ IsPlainLine zoom Publish = ⊤
 IsPlainLine zoom (Ask lane text) = (lane ≡ 0) × IsAscii text
 
 -- what the builder has
-abbrev pub built_of : Session → Built
+abbrev pub built_of : Standing → Built
 built_of s = record { table = s.table; last = record { number = s.number; table = s.published } }
 
 -- what stands while these lines are left of a session with one layer of this zoom
-pub record IsReady (zoom : ℕ) (left : List BodyLine) (s : Session) : Type 0 where
+pub record IsReady (zoom : ℕ) (left : List BodyLine) (s : Standing) : Type 0 where
   pub lines : All (IsPlainLine zoom) left
   pub table : IsOfLayer zoom s.table
   pub published : IsOfLayer zoom s.published
@@ -28,7 +28,7 @@ pub record IsReady (zoom : ℕ) (left : List BodyLine) (s : Session) : Type 0 wh
   pub asks : All (λ n. n + count_by is_ask left ≤ 4096) s.asks
 
 -- the line is answered: its text is appended, the builder and the lanes go on
-pub record IsStep (layers : List LayerView) (line : BodyLine) (old new : Session) (out out_after : List ℕ) : Type 0 where
+pub record IsStep (layers : List LayerView) (line : BodyLine) (old new : Standing) (out out_after : List ℕ) : Type 0 where
   pub text : List ℕ
   pub appended : out_after ≡ out ++ text
   pub allowed : IsLineText layers (built_of old) old.asks line text

@@ -4,15 +4,15 @@ use Rattle.feature_reader.specs.Layer.{LayerView}
 use Rattle.session_text.specs.declared.body.BodyLine.{BodyLine}
 use Rattle.session_text.specs.declared.status.Why.{Why}
 use Rattle.session_text.specs.declared.status.Why.TheVariants.{NotYet}
-use Rattle.session_text.specs.FirstSession.{first_session}
+use Rattle.session_text.specs.FirstSession.{session_of}
 
--- an `end` line was met; this line is refused for this reason, line 0 standing for the whole; neither was met
+-- the bytes are a session up to its `end` line; or this line is refused for this reason, line 0 standing for the whole; or neither is known, since the source wasn't read to its end or the limit
 pub data Ending : Type 0 where
   at_end_line : Ending
   at_bad_line : ℕ → Why → Ending
   unended : Ending
 
--- the layers of the head, the rounds that were closed, and the ending
+-- the layers, the lines that are answered, in rounds, and the ending
 pub record Reading : Type 0 where
   pub layers : List LayerView
   pub rounds : List (List BodyLine)
@@ -25,4 +25,4 @@ whole_reading None = record { layers = []; rounds = []; ending = at_bad_line 0 N
 
 -- the reading of these bytes; ended: the source was found at its end, below the limit
 abbrev pub reading : ℕ → Bool → List ℕ → Reading
-reading limit ended bytes = if ended || nat_le limit (length bytes) then whole_reading (first_session bytes) else record { layers = []; rounds = []; ending = unended }
+reading limit ended bytes = if ended || nat_le limit (length bytes) then whole_reading (session_of bytes) else record { layers = []; rounds = []; ending = unended }

@@ -31,7 +31,7 @@ pub record Moved (limit : ℕ) (left left_after contents contents_after : Option
 abbrev pub IsTextOf : Reading → List ℕ → Type 0
 IsTextOf read put = IsPlainText read.layers read.rounds put
 
--- what each status says of the reading of the bytes taken, and of the bytes written
+-- what each status says of the reading of the bytes taken, and of the bytes written; where these bytes aren't a session, the only text is empty, which has no proper front
 abbrev pub Says : Status → Reading → List ℕ → Type 0
 Says Done read put = (read.ending ≡ at_end_line) × IsTextOf read put
 Says Usage read put = put ≡ []
@@ -41,8 +41,8 @@ Says WriteFault read put = (text : List ℕ) × IsTextOf read text × IsProperFr
 Says Memory read put = (text : List ℕ) × IsTextOf read text × IsFront put text
 
 -- some bytes were taken and some written, as the status says
-abbrev pub Answers : ℕ → Option (List ℕ) → Option (List ℕ) → Option (List ℕ) → Option (List ℕ) → Status → Type 0
-Answers limit left left_after contents contents_after status =
+abbrev pub EndsAs : ℕ → Option (List ℕ) → Option (List ℕ) → Option (List ℕ) → Option (List ℕ) → Status → Type 0
+EndsAs limit left left_after contents contents_after status =
     (taken : List ℕ) × (put : List ℕ) × (ended : Bool) × Moved limit left left_after contents contents_after taken put ended × Says status (reading limit ended taken) put
 
 -- the status that a reading decides

@@ -8,7 +8,7 @@ ghost use Rattle.geo_base.specs.declared.link.Link.{Link};
 ghost use Rattle.geo_base.specs.Order.{context_cmp, same_target};
 ghost use Rattle.geo_base.specs.Best.{best_of};
 ghost use Rattle.carmen_cli.specs.Match.{runs_from, runs};
-ghost use Rattle.carmen_cli.specs.Links.{link_of, run_links, phrase_links, feature_links, first_links, singles, IsOfLayer};
+ghost use Rattle.carmen_cli.specs.Links.{link_of, run_links, phrase_links, feature_links, links_on_first_tiles, singles, IsOfLayer};
 ghost use Rattle.carmen_cli.specs.Answering.{answer_of};
 ghost use Rattle.geo_base.specs.Context.{Agree};
 ghost use Rattle.feature_reader.specs.FeatureView.{IsFeature};
@@ -59,7 +59,7 @@ fn add_run(
     requires within { to ≤ length query.now.tokens }
     ensures { OnOk result (links.new.items ≡ links.old.items ++ run_links query.now layer feature.now (take 1 feature.now.tiles) phrase.now (from, to)) }
 {
-    let _tokens = query.tokens();
+    let _tokens = query.tokens(); // brings the rule of a query here: at most 20 tokens
     if is_match(query, from, to, phrase.text.as_str()) {
         links.push(first_link(layer, feature, phrase, from, to))?;
     }
@@ -118,8 +118,12 @@ fn add_feature(
 }
 
 /// The links of a query on the first tiles of the features.
-fn first_links(alloc: Global, table: &FeatureTable, query: &Query) -> Result<Vec<Link>, Memory>
-    ensures links { IfOk result (λ v. v.items ≡ first_links table.now query.now) }
+fn links_on_first_tiles(
+    alloc: Global,
+    table: &FeatureTable,
+    query: &Query,
+) -> Result<Vec<Link>, Memory>
+    ensures links { IfOk result (λ v. v.items ≡ links_on_first_tiles table.now query.now) }
     ensures features { OnOk result (All (λ e. IsFeature e.1) table.now) }
     ensures table { IsTable table.now }
 {
@@ -152,7 +156,7 @@ pub fn answer_in_layer(
     requires { IsOfLayer layer.now.zoom table.now }
     ensures { IfOk result (λ answer. answer ≡ answer_of (layer.now ∷ []) table.now query.now) }
 {
-    let links = first_links(alloc, table, query)?;
+    let links = links_on_first_tiles(alloc, table, query)?;
     let top = best_singles(alloc, &links)?;
     Ok(top.answer(query.tokens().len() as u8))
 }

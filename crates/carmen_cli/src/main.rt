@@ -42,7 +42,7 @@ example:
 exit status, told on standard error where it isn't 0:
   0  the session was read to its end, and all of it is answered
   1  the words aren't understood
-  2  a line of the session, or the session as a whole (line 0), is refused
+  2  the session is refused; line 0 stands for the session as a whole
   5  reading standard input failed
   6  writing to standard output failed
   7  out of memory

@@ -7,14 +7,15 @@ ghost use Rattle.carmen_cli.specs.Match.{matches};
 use feature_reader::text::Text;
 use session_text::query::Query;
 
-/// What of a text follows these bytes, where it begins with them.
+/// What follows these bytes in a text; None where it doesn't begin with them.
 fn after<'a>(text: &'a [u8], front: &[u8]) -> Option<&'a [u8]>
     ensures { MatchOption result ((rest : List ℕ) → text.now ≡ front.now ++ rest → ⊥) (λ rest. text.now ≡ front.now ++ rest.now) }
 {
     text.strip_prefix(front)
 }
 
-/// What of a phrase follows the text of a run, where it begins with it: the tokens with one space between them.
+/// What follows the text of a run in a phrase, which is its tokens with one space between each two; None where the phrase
+/// doesn't begin with it.
 fn after_run<'a>(phrase: &'a [u8], tokens: &[Text]) -> Option<&'a [u8]>
     ensures { MatchOption result ((rest : List ℕ) → phrase.now ≡ joined tokens.now ++ rest → ⊥) (λ rest. phrase.now ≡ joined tokens.now ++ rest.now) }
 {

@@ -5,7 +5,7 @@ ghost use Rattle.feature_reader.specs.Layer.{LayerView};
 ghost use Rattle.session_text.specs.declared.body.BodyLine.{BodyLine};
 ghost use Rattle.session_text.specs.declared.reply.Reply.{Reply};
 ghost use Rattle.session_text.specs.declared.body.BodyLine.TheVariants.{Put, Publish, Ask};
-ghost use Rattle.session_text.specs.FirstSession.{are_few, first_session};
+ghost use Rattle.session_text.specs.FirstSession.{are_few, session_of};
 ghost use Rattle.carmen_cli.specs.Links.{IsOfLayer};
 ghost use Rattle.carmen_cli.specs.Answering.{Published, reply_to};
 ghost use Rattle.carmen_cli.specs.Plain.{IsText, IsPlainText, empty, no_asks};
@@ -27,7 +27,7 @@ use std::alloc::Global;
 
 /// What stands while a session is answered: the features, and what was published last.
 #[derive(Drop)]
-struct Session {
+struct Standing {
     /// The features that were put so far.
     table: FeatureTable,
     /// The features of the last published generation.
@@ -58,50 +58,55 @@ fn reply(alloc: Global, layer: &Layer, published: &FeatureTable, number: u32, te
 }
 
 /// Puts a feature into a layer.
-fn put(session: &mut Session, layer: u8, feature: Feature, out: &mut Vec<u8>) -> Result<(), Memory>
-    requires { length session.old.table < 16 }
-    ensures { (layers : List LayerView) → OnOk result (IsStep layers (Put layer feature) session.old session.new out.old.items out.new.items) }
+fn put(
+    standing: &mut Standing,
+    layer: u8,
+    feature: Feature,
+    out: &mut Vec<u8>,
+) -> Result<(), Memory>
+    requires { length standing.old.table < 16 }
+    ensures { (layers : List LayerView) → OnOk result (IsStep layers (Put layer feature) standing.old standing.new out.old.items out.new.items) }
 {
     let id = feature.id();
-    let taken = session.table.take(layer, feature)?;
+    let taken = standing.table.take(layer, feature)?;
     write_put(out, layer, id, taken)
 }
 
 /// Publishes a generation of the features that stand.
-fn publish(session: &mut Session, out: &mut Vec<u8>) -> Result<(), Memory>
-    requires { session.old.number < 1 }
-    ensures { (layers : List LayerView) → OnOk result (IsStep layers Publish session.old session.new out.old.items out.new.items) }
+fn publish(standing: &mut Standing, out: &mut Vec<u8>) -> Result<(), Memory>
+    requires { standing.old.number < 1 }
+    ensures { (layers : List LayerView) → OnOk result (IsStep layers Publish standing.old standing.new out.old.items out.new.items) }
 {
-    session.published = session.table.copy()?;
-    session.number += 1;
-    write_published(out, session.number)
+    standing.published = standing.table.copy()?;
+    standing.number += 1;
+    write_published(out, standing.number)
 }
 
 /// Answers a query.
 fn ask(
     alloc: Global,
     layer: &Layer,
-    session: &mut Session,
+    standing: &mut Standing,
     lane: u8,
     text: &Text,
     out: &mut Vec<u8>,
 ) -> Result<(), Memory>
     requires lane { lane ≡ 0 }
     requires ascii { IsAscii text.now }
-    requires layer { IsOfLayer layer.now.zoom session.old.published }
-    requires few { All (λ n. n ≤ 4096) session.old.asks }
-    ensures { OnOk result (IsStep (layer.now ∷ []) (Ask lane text.now) session.old session.new out.old.items out.new.items) }
+    requires layer { IsOfLayer layer.now.zoom standing.old.published }
+    requires few { All (λ n. n ≤ 4096) standing.old.asks }
+    ensures { OnOk result (IsStep (layer.now ∷ []) (Ask lane text.now) standing.old standing.new out.old.items out.new.items) }
 {
     let reply = reply(
         alloc,
         layer,
-        &session.published,
-        session.number,
+        &standing.published,
+        standing.number,
         text.as_str(),
     );
-    let place = session.asks[lane as usize];
+    let place = standing.asks[lane as usize];
     write_reply(out, lane, place, &reply)?;
-    session.asks[lane as usize] = place + 1;
+    standing.asks[lane as usize] = place + 1;
     Ok(())
 }
 
@@ -109,17 +114,17 @@ fn ask(
 fn answer_line(
     alloc: Global,
     layer: &Layer,
-    session: &mut Session,
+    standing: &mut Standing,
     line: BodyLine,
     out: &mut Vec<u8>,
 ) -> Result<(), Memory>
-    requires { (left : List BodyLine) × IsReady layer.now.zoom (line ∷ left) session.old }
-    ensures { OnOk result (IsStep (layer.now ∷ []) line session.old session.new out.old.items out.new.items) }
+    requires { (left : List BodyLine) × IsReady layer.now.zoom (line ∷ left) standing.old }
+    ensures { OnOk result (IsStep (layer.now ∷ []) line standing.old standing.new out.old.items out.new.items) }
 {
     match line {
-        BodyLine::Put { layer, feature } => put(session, layer, feature, out),
-        BodyLine::Publish => publish(session, out),
-        BodyLine::Ask { lane, text } => ask(alloc, layer, session, lane, &text, out),
+        BodyLine::Put { layer, feature } => put(standing, layer, feature, out),
+        BodyLine::Publish => publish(standing, out),
+        BodyLine::Ask { lane, text } => ask(alloc, layer, standing, lane, &text, out),
     }
 }
 
@@ -129,7 +134,7 @@ fn answer_round(alloc: Global, layer: &Layer, round: Round) -> Result<Vec<u8>, M
     requires few { are_few round ≡ true }
     ensures { IfOk result (λ text. IsText (layer.now ∷ []) empty no_asks round text.items) }
 {
-    let mut session = Session {
+    let mut standing = Standing {
         table: FeatureTable::new(alloc),
         published: FeatureTable::new(alloc),
         number: 0,
@@ -137,15 +142,15 @@ fn answer_round(alloc: Global, layer: &Layer, round: Round) -> Result<Vec<u8>, M
     };
     let mut out = Vec::new(alloc);
     for line in round.into_vec() {
-        answer_line(alloc, layer, &mut session, line, &mut out)?;
+        answer_line(alloc, layer, &mut standing, line, &mut out)?;
     }
     Ok(out)
 }
 
-/// The text of an accepted session; None where the bytes are none.
+/// The text of an accepted session; None where the bytes aren't one.
 pub fn answer(alloc: Global, bytes: &[u8]) -> Result<Option<Vec<u8>>, Memory>
-    ensures { IfOk result (λ o. MatchOption o (first_session bytes.now ≡ None)
-        (λ text. (layer : LayerView) × (body : List BodyLine) × (first_session bytes.now ≡ Some (layer, body)) × IsPlainText (layer ∷ []) (body ∷ []) text.items)) }
+    ensures { IfOk result (λ o. MatchOption o (session_of bytes.now ≡ None)
+        (λ text. (layer : LayerView) × (body : List BodyLine) × (session_of bytes.now ≡ Some (layer, body)) × IsPlainText (layer ∷ []) (body ∷ []) text.items)) }
 {
     match read_first(alloc, bytes) {
         Ok((layer, round)) => Ok(Some(answer_round(alloc, &layer, round)?)),

@@ -20,7 +20,7 @@ const PUT: &str =
 
 const ASKS: &str = "publish\nask 0 auto=0 | new york\nask 0 auto=0 | york\n";
 
-const PADDED: &str =
+const REST_OF_PUT: &str =
     "\"id\":7,\"properties\":{\"carmen:text\":\"New York\",\"carmen:zxy\":[\"6/32/32\",\"6/33/32\"]}}\npublish\nask 0 auto=0 | new york\nask 0 auto=0 | york\nend\n";
 
 const ANSWERS: &str =
@@ -52,10 +52,10 @@ fn session_of(alloc: Global, texts: &[&str]) -> Result<Vec<u8>, AllocError> {
 // A session of this length: its put is padded by blanks.
 fn padded(alloc: Global, length: usize) -> Result<Vec<u8>, AllocError> {
     let mut session = session_head(alloc)?;
-    for _ in session.len() + PADDED.len()..length {
+    for _ in session.len() + REST_OF_PUT.len()..length {
         session.push(b' ')?;
     }
-    session.extend_from_slice(PADDED.as_bytes())?;
+    session.extend_from_slice(REST_OF_PUT.as_bytes())?;
     Ok(session)
 }
 

@@ -3,13 +3,13 @@
 ghost use Rattle.std.specs.Prelude.{◌≡◌, ◌⊎◌, ◌<◌, ◌≤◌, ℕ, List, ◌++◌, IfOk, OnOk, OnErr, Err, length};
 ghost use Rattle.std.specs.Io.KnownBytes.{Appends, Consumes, IsAtEnd};
 ghost use Rattle.geo_outside.specs.Device.{Rose};
-ghost use Rattle.session_text.specs.FirstSession.{most_bytes};
+ghost use Rattle.session_text.specs.FirstSession.{byte_limit};
 
 use geo_outside::device::{Failed, Sink, SinkError, Source};
 use std::alloc::{AllocError, Global};
 
-/// The most bytes that are taken.
-const MOST_BYTES: usize = 1_048_576;
+/// The most bytes that are taken: no session has as many.
+const BYTE_LIMIT: usize = 1_048_576;
 
 /// The most bytes that are asked for at once.
 const BLOCK: usize = 65_536;
@@ -46,20 +46,20 @@ impl From<Failed> for TakeError {
 }
 
 /// Takes bytes until nothing is left or 1,048,576 were taken. At `Failed` and at `Memory` some bytes may have been
-/// taken, which are lost; at `Failed` they are fewer than that.
+/// taken, which are lost; at `Failed` they are fewer than 1,048,576.
 pub fn take_all<S: Source>(alloc: Global, source: &mut S) -> Result<Vec<u8>, TakeError>
     ensures taken { IfOk result (λ v. Consumes (S.left source.old) (S.left source.new) v.items) }
-    ensures within { IfOk result (λ v. length v.items ≤ most_bytes) }
-    ensures all { IfOk result (λ v. (length v.items ≡ most_bytes) ⊎ IsAtEnd (S.left source.new)) }
+    ensures within { IfOk result (λ v. length v.items ≤ byte_limit) }
+    ensures all { IfOk result (λ v. (length v.items ≡ byte_limit) ⊎ IsAtEnd (S.left source.new)) }
     ensures part { OnErr result ((bytes : List ℕ) × Consumes (S.left source.old) (S.left source.new) bytes
-        × (length bytes ≤ most_bytes) × (result ≡ Err TakeError.Failed → length bytes < most_bytes)) }
+        × (length bytes ≤ byte_limit) × (result ≡ Err TakeError.Failed → length bytes < byte_limit)) }
     ensures later { S.faults source.old ≤ S.faults source.new }
     ensures cause { result ≡ Err TakeError.Failed → Rose (S.faults source.old) (S.faults source.new) }
 {
     let mut taken = Vec::new(alloc);
     let mut block = [0u8; BLOCK];
-    while taken.len() < MOST_BYTES {
-        let room = BLOCK.min(MOST_BYTES - taken.len());
+    while taken.len() < BYTE_LIMIT {
+        let room = BLOCK.min(BYTE_LIMIT - taken.len());
         let n = source.read(&mut block[..room])?;
         if n == 0 {
             return Ok(taken);

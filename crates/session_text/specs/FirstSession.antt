@@ -12,13 +12,13 @@ use Rattle.session_text.specs.Query.{query_of}
 use Rattle.session_text.specs.declared.body.BodyLine.{BodyLine}
 use Rattle.session_text.specs.declared.body.BodyLine.TheVariants.{Put, Publish, Ask}
 
--- the last of some lines, and those before it
+-- the last of some lines; where there are none, an empty one
 abbrev pub last : List (List ℕ) → List ℕ
 last [] = []
 last (x ∷ []) = x
 last (x ∷ y ∷ ys) = last (y ∷ ys)
 
--- the lines before the last
+-- the lines before the last one
 abbrev pub front : List (List ℕ) → List (List ℕ)
 front [] = []
 front (x ∷ []) = []
@@ -49,8 +49,8 @@ abbrev pub zoom_in : List ℕ → ℕ
 zoom_in line = unwrap_or (number_of (before_first (λ b. b == 125) (drop (length (name_in line) + 24) line))) 17
 
 -- the layer that the line spells: a name, and a zoom of at most 16 without leading zeros
-abbrev pub first_layer : List ℕ → Option LayerView
-first_layer line =
+abbrev pub layer_of : List ℕ → Option LayerView
+layer_of line =
     let name = name_in line in
     let zoom = zoom_in line in
     if is_name name && (nat_le zoom 16 && bytes_eq line (layer_line name zoom)) then Some (record { name = name; zoom = zoom }) else None
@@ -60,8 +60,8 @@ abbrev pub plain_feature : ℕ → Data → Option FeatureView
 plain_feature zoom d = if is_plain d then elim (feature_of_data zoom d) [ Ok f ↦ Some f | Err fault ↦ None ] else None
 
 -- `put 0 JSON`, of ASCII
-abbrev pub first_put : ℕ → List ℕ → Option BodyLine
-first_put zoom line =
+abbrev pub put_of : ℕ → List ℕ → Option BodyLine
+put_of zoom line =
     if bytes_eq (take 6 line) (codes "put 0 ") && is_ascii (drop 6 line)
     then option_and_then (λ d. option_map (λ f. Put 0 f) (plain_feature zoom d)) (data_of (drop 6 line))
     else None
@@ -71,16 +71,16 @@ abbrev pub is_readable : List ℕ → Bool
 is_readable text = elim (query_of text) [ Ok q ↦ true | Err fault ↦ false ]
 
 -- `ask 0 QUERY`, of ASCII
-abbrev pub first_ask : List ℕ → Option BodyLine
-first_ask line =
+abbrev pub ask_of : List ℕ → Option BodyLine
+ask_of line =
     if bytes_eq (take 6 line) (codes "ask 0 ") && (is_ascii (drop 6 line) && is_readable (drop 6 line)) then Some (Ask 0 (drop 6 line)) else None
 
 -- a line of the body: a publication, an ask or a put
-abbrev pub first_line : ℕ → List ℕ → Option BodyLine
-first_line zoom line =
+abbrev pub line_of : ℕ → List ℕ → Option BodyLine
+line_of zoom line =
     if bytes_eq line (codes "publish") then Some Publish
-    else if bytes_eq (take 4 line) (codes "ask ") then first_ask line
-    else first_put zoom line
+    else if bytes_eq (take 4 line) (codes "ask ") then ask_of line
+    else put_of zoom line
 
 -- the line is a put
 abbrev pub is_put : BodyLine → Bool
@@ -102,23 +102,23 @@ abbrev pub are_few : List BodyLine → Bool
 are_few lines = nat_le (count_by is_put lines) 16 && (nat_le (count_by is_publish lines) 1 && nat_le (count_by is_ask lines) 4096)
 
 -- the body that stands before the last line, which is `end`
-abbrev pub first_body : ℕ → List (List ℕ) → Option (List BodyLine)
-first_body zoom lines = if bytes_eq (last lines) (codes "end") then each_of (first_line zoom) (front lines) else None
+abbrev pub body_of : ℕ → List (List ℕ) → Option (List BodyLine)
+body_of zoom lines = if bytes_eq (last lines) (codes "end") then each_of (line_of zoom) (front lines) else None
 
 -- a layer and its body, which isn't too long
 abbrev pub with_body : LayerView → List BodyLine → Option (LayerView × List BodyLine)
 with_body layer body = if are_few body then Some (layer, body) else None
 
 -- the first line is `carmen 1`, the second the layer, and the others are the body
-abbrev pub first_lines : List (List ℕ) → Option (LayerView × List BodyLine)
-first_lines (title ∷ second ∷ lines) =
-    if bytes_eq title (codes "carmen 1") then option_and_then (λ layer. option_and_then (with_body layer) (first_body layer.zoom lines)) (first_layer second) else None
-first_lines lines = None
+abbrev pub session_of_lines : List (List ℕ) → Option (LayerView × List BodyLine)
+session_of_lines (title ∷ second ∷ lines) =
+    if bytes_eq title (codes "carmen 1") then option_and_then (λ layer. option_and_then (with_body layer) (body_of layer.zoom lines)) (layer_of second) else None
+session_of_lines lines = None
 
--- fewer bytes than this are a session
-abbrev pub most_bytes : ℕ
-most_bytes = 1048576
+-- a session has fewer bytes than this, and no more are taken from a source
+abbrev pub byte_limit : ℕ
+byte_limit = 1048576
 
 -- the layer and the body of an accepted session
-abbrev pub first_session : List ℕ → Option (LayerView × List BodyLine)
-first_session bytes = if nat_lt (length bytes) most_bytes then first_lines (all_lines bytes) else None
+abbrev pub session_of : List ℕ → Option (LayerView × List BodyLine)
+session_of bytes = if nat_lt (length bytes) byte_limit then session_of_lines (all_lines bytes) else None

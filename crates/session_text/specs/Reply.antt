@@ -33,15 +33,15 @@ fault_text Empty = codes "4 Empty"
 fault_text Tokens = codes "5 Tokens"
 
 -- the text of a reply, with a line for each context
-abbrev pub reply_text : Reply → List ℕ
-reply_text (Found generation answer) =
+abbrev pub answer_text : Reply → List ℕ
+answer_text (Found generation answer) =
     codes "gen " ++ decimal generation ++ codes " found " ++ decimal (length answer.contexts) ++ codes "\n" ++ flat_map (context_text answer.tokens) answer.contexts
-reply_text (Unreadable fault) = codes "unreadable " ++ fault_text fault ++ codes "\n"
-reply_text Memory = codes "memory\n"
+answer_text (Unreadable fault) = codes "unreadable " ++ fault_text fault ++ codes "\n"
+answer_text Memory = codes "memory\n"
 
 -- the text of an ask: its lane, its place among the lane's asks, and the reply
-abbrev pub ask_text : ℕ → ℕ → Reply → List ℕ
-ask_text lane place reply = codes "ask " ++ decimal lane ++ codes " " ++ decimal place ++ codes " " ++ reply_text reply
+abbrev pub reply_text : ℕ → ℕ → Reply → List ℕ
+reply_text lane place reply = codes "ask " ++ decimal lane ++ codes " " ++ decimal place ++ codes " " ++ answer_text reply
 
 -- what a put answers, in a word
 abbrev pub taken_word : Taken → List ℕ

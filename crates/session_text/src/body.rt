@@ -20,7 +20,7 @@ pub enum BodyLine {
     Ask { lane: u8, text: Text },
 }
 
-/// The lines between two joins, seen as a list.
+/// The lines of a body that are answered one after another, seen as a list.
 #[derive(Drop)]
 pub struct Round {
     lines: Vec<BodyLine>,

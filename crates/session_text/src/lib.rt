@@ -2,8 +2,10 @@
 #![tactic(auto)]
 
 pub mod body;
+mod bytes;
 pub mod first;
 pub mod laws;
+mod layer_line;
 pub mod query;
 pub mod reply;
 pub mod status;

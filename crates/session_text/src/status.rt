@@ -17,7 +17,7 @@ pub enum Why {
 /// How a session ends.
 #[derive(Clone, Copy, Debug, PartialEq, Eq)]
 pub enum Status {
-    /// The `end` line was read, and all answers are written.
+    /// The bytes are a whole session, and all answers are written.
     Done,
     /// The words of the command line aren't understood.
     Usage,

@@ -3,7 +3,7 @@
 ghost use Rattle.std.specs.Prelude.{◌≡◌, ◌≤◌, ◌*◌, ◌++◌, length, codes, decimal, flat_map, sum_by, OnOk, OnErr};
 ghost use Rattle.std.specs.Io.{StartsWith};
 ghost use Rattle.geo_base.specs.Order.{target_score};
-ghost use Rattle.session_text.specs.Reply.{tile_text, link_text, context_text, fault_text, reply_text, ask_text, taken_word, put_text, published_text};
+ghost use Rattle.session_text.specs.Reply.{tile_text, link_text, context_text, fault_text, answer_text, reply_text, taken_word, put_text, published_text};
 ghost use Rattle.session_text.specs.declared.reply.Reply.TheVariants.{Unreadable};
 
 use crate::query::QueryFault;
@@ -142,7 +142,7 @@ fn name_of(fault: QueryFault) -> &'static [u8]
 
 /// Appends the text of a refusal.
 fn write_unreadable(out: &mut Vec<u8>, fault: QueryFault) -> Result<(), Memory>
-    ensures ok { OnOk result (out.new.items ≡ out.old.items ++ reply_text (Unreadable fault)) }
+    ensures ok { OnOk result (out.new.items ≡ out.old.items ++ answer_text (Unreadable fault)) }
     ensures err { OnErr result (StartsWith out.new.items out.old.items) }
 {
     push_both(out, b"unreadable ", name_of(fault))?;
@@ -152,7 +152,7 @@ fn write_unreadable(out: &mut Vec<u8>, fault: QueryFault) -> Result<(), Memory>
 
 /// Appends the text of a reply that follows the lane and the place of its ask.
 fn write_answer(out: &mut Vec<u8>, r: &Reply) -> Result<(), Memory>
-    ensures ok { OnOk result (out.new.items ≡ out.old.items ++ reply_text r.now) }
+    ensures ok { OnOk result (out.new.items ≡ out.old.items ++ answer_text r.now) }
     ensures err { OnErr result (StartsWith out.new.items out.old.items) }
 {
     match r {
@@ -170,7 +170,7 @@ fn write_answer(out: &mut Vec<u8>, r: &Reply) -> Result<(), Memory>
 
 /// Appends the text of an ask: its lane, its place among the asks of its lane, counted from 0, and the reply.
 pub fn write_reply(out: &mut Vec<u8>, lane: u8, place: u64, r: &Reply) -> Result<(), Memory>
-    ensures ok { OnOk result (out.new.items ≡ out.old.items ++ ask_text lane place r.now) }
+    ensures ok { OnOk result (out.new.items ≡ out.old.items ++ reply_text lane place r.now) }
     ensures err { OnErr result (StartsWith out.new.items out.old.items) }
 {
     push_number(out, b"ask ", u64::from(lane))?;

@@ -18,7 +18,7 @@ loop-line-init c =
     }
 
 pub answer_line-requires : goal.answer_line-requires
-answer_line-requires c = (into_iter_items c.next.new.self, subst (λ ls. IsReady c.args.layer.now.zoom ls c.loop-line.session) c.in-Some.ensures.steps.0 c.loop-line.invariant.ready)
+answer_line-requires c = (into_iter_items c.next.new.self, subst (λ ls. IsReady c.args.layer.now.zoom ls c.loop-line.standing) c.in-Some.ensures.steps.0 c.loop-line.invariant.ready)
 
 pub loop-line-preserved : goal.loop-line-preserved
 loop-line-preserved c =
@@ -26,8 +26,8 @@ loop-line-preserved c =
     let turn = c.in-Some.ensures.steps.0 in
     let step = c.in_ok-answer_line.ensures in
     record {
-      ready = ready_after _ _ _ _ _ _ _ _ inv.eight (subst (λ ls. IsReady c.args.layer.now.zoom ls c.loop-line.session) turn inv.ready) step;
-      text = goes_after _ _ _ _ _ _ _ _ step (subst (λ ls. Goes (c.args.layer.now ∷ []) c.args.round ls c.loop-line.session c.loop-line.out.items) turn inv.text);
+      ready = ready_after _ _ _ _ _ _ _ _ inv.eight (subst (λ ls. IsReady c.args.layer.now.zoom ls c.loop-line.standing) turn inv.ready) step;
+      text = goes_after _ _ _ _ _ _ _ _ step (subst (λ ls. Goes (c.args.layer.now ∷ []) c.args.round ls c.loop-line.standing c.loop-line.out.items) turn inv.text);
       eight = ap length step.places ∙ places_length _ _ ∙ inv.eight;
     }
 
@@ -36,5 +36,5 @@ returns c =
     let it = c.loop-line.line-iterator in
     let short : length (into_iter_items it) ≡ 0 = omega (arith, c.in-None.ensures.steps.0, it.rest.ok) in
     let none = nothing_left (into_iter_items it) short in
-    let whole = subst (λ ls. Goes (c.args.layer.now ∷ []) c.args.round ls c.loop-line.session c.loop-line.out.items) none c.loop-line.invariant.text in
+    let whole = subst (λ ls. Goes (c.args.layer.now ∷ []) c.args.round ls c.loop-line.standing c.loop-line.out.items) none c.loop-line.invariant.text in
     subst (IsText (c.args.layer.now ∷ []) empty no_asks c.args.round) (append-nil c.loop-line.out.items) (whole [] refl)

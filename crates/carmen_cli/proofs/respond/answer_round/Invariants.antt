@@ -7,7 +7,7 @@ use Rattle.carmen_cli.proofs.respond.answer_round.Given as goal
 -- what stands fits the lines that are left, and their text fits behind what was written
 abbrev pub invariant-loop-line : goal.invariant-loop-line
 invariant-loop-line l = record {
-  ready : IsReady l.layer.zoom (into_iter_items l.line-iterator) l.session;
-  text : Goes (l.layer ∷ []) l.fn.round (into_iter_items l.line-iterator) l.session l.out.items;
-  eight : length l.session.asks ≡ 8;
+  ready : IsReady l.layer.zoom (into_iter_items l.line-iterator) l.standing;
+  text : Goes (l.layer ∷ []) l.fn.round (into_iter_items l.line-iterator) l.standing l.out.items;
+  eight : length l.standing.asks ≡ 8;
 }

@@ -1,7 +1,7 @@
 use Rattle.std.proofs.Common.{◌∙◌, sym, ap, subst}
 use Rattle.std.specs.Io.KnownBytes.{Appends}
 use Rattle.std.proofs.KnownBytes.{Appends-nil}
-use Rattle.session_text.specs.FirstSession.{first_session}
+use Rattle.session_text.specs.FirstSession.{session_of}
 use Rattle.session_text.specs.declared.status.Why.TheVariants.{NotYet}
 use Rattle.session_text.specs.declared.status.Status.TheVariants.{Done, BadLine, WriteFault, Memory}
 use Rattle.carmen_cli.specs.Reading.{whole_reading}
@@ -12,7 +12,7 @@ pub returns-in-Err-Failed-put_all-clause-session : goal.returns-in-Err-Failed-pu
 returns-in-Err-Failed-put_all-clause-session g c =
     let is = rw c.in-Ok-Some.field-0-is at c.in-Ok-Some.ensures in
     let part = c.in-Err-Failed-put_all.ensures.part in
-    let same = ap first_session (sym c.deref.ensures.value) ∙ is.2 in
+    let same = ap session_of (sym c.deref.ensures.value) ∙ is.2 in
     all_taken _ _ _ _ _ _ _ WriteFault c.in-Ok.ensures.taken c.in-Ok.ensures.within c.in-Ok.ensures.all part.4
     (cut_short _ _ _ _ _ _ same is.3 (sym c.deref-in-Ok-Some.ensures.value ∙ part.2) part.3)
 
@@ -20,7 +20,7 @@ pub returns-in-Ok-Some-clause-session : goal.returns-in-Ok-Some-clause-session
 returns-in-Ok-Some-clause-session g c =
     let is = rw c.in-Ok-Some.field-0-is at c.in-Ok-Some.ensures in
     let part = c.in-Err-Memory-put_all.ensures.part in
-    let same = ap first_session (sym c.deref.ensures.value) ∙ is.2 in
+    let same = ap session_of (sym c.deref.ensures.value) ∙ is.2 in
     all_taken _ _ _ _ _ _ _ Memory c.in-Ok.ensures.taken c.in-Ok.ensures.within c.in-Ok.ensures.all part.4
     (given_up _ _ _ _ _ _ same is.3 (sym c.deref-in-Ok-Some.ensures.value ∙ part.2))
 
@@ -28,11 +28,11 @@ pub returns-in-Ok-None-clause-session : goal.returns-in-Ok-None-clause-session
 returns-in-Ok-None-clause-session g c =
     let is = rw c.in-Ok-None.field-0-is at c.in-Ok-None.ensures in
     all_taken _ _ _ _ _ _ _ (BadLine 0 NotYet) c.in-Ok.ensures.taken c.in-Ok.ensures.within c.in-Ok.ensures.all (Appends-nil _)
-    (refused _ (ap first_session (sym c.deref.ensures.value) ∙ is))
+    (refused _ (ap session_of (sym c.deref.ensures.value) ∙ is))
 
 pub returns-clause-session : goal.returns-clause-session
 returns-clause-session g c =
-    all_taken _ _ _ _ _ _ _ Memory c.in-Ok.ensures.taken c.in-Ok.ensures.within c.in-Ok.ensures.all (Appends-nil _) (nothing_yet (whole_reading (first_session c.in-Ok.taken.items)))
+    all_taken _ _ _ _ _ _ _ Memory c.in-Ok.ensures.taken c.in-Ok.ensures.within c.in-Ok.ensures.all (Appends-nil _) (nothing_yet (whole_reading (session_of c.in-Ok.taken.items)))
 
 pub returns-in-Ok-None-clause-decided : goal.returns-in-Ok-None-clause-decided
 returns-in-Ok-None-clause-decided g c =
@@ -42,7 +42,7 @@ pub returns-in-Ok-put_all-clause-session : goal.returns-in-Ok-put_all-clause-ses
 returns-in-Ok-put_all-clause-session g c =
     let is = rw c.in-Ok-Some.field-0-is at c.in-Ok-Some.ensures in
     let wrote = subst (Appends (g.K.Sink.contents c.args.sink.now) (g.K.Sink.contents c.put_all.new.sink)) c.deref-in-Ok-Some.ensures.value c.in-Ok-put_all.ensures.all in
-    let same = ap first_session (sym c.deref.ensures.value) ∙ is.2 in
+    let same = ap session_of (sym c.deref.ensures.value) ∙ is.2 in
     all_taken _ _ _ _ _ _ _ Done c.in-Ok.ensures.taken c.in-Ok.ensures.within c.in-Ok.ensures.all wrote
     (finished _ _ _ _ same is.3)
 

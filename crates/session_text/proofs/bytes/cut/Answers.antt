@@ -1,7 +1,7 @@
 use Rattle.std.proofs.Common.{◌∙◌, ◌+◌, ℕ, ◌==◌, ◌∷◌, sym, ap, take, List}
 use Rattle.session_text.specs.FirstSession.{parts}
 use Rattle.feature_reader.proofs.SplitParts.{cut_some, cut_none, rest_is}
-use Rattle.session_text.proofs.first.cut.Goals as goal
+use Rattle.session_text.proofs.bytes.cut.Goals as goal
 
 pub returns-in-Some-clause-cases : goal.returns-in-Some-clause-cases
 returns-in-Some-clause-cases c =

@@ -1,7 +1,7 @@
 use Rattle.std.proofs.Common.{◌≡◌, ◌∙◌, true, false, sym, rules}
 use Rattle.feature_reader.specs.Layer.{is_name}
 use Rattle.session_text.proofs.Ascii.{name-ascii}
-use Rattle.session_text.proofs.first.read_layer.Goals as goal
+use Rattle.session_text.proofs.layer_line.read_layer.Goals as goal
 
 pub returns-in-None : goal.returns-in-None
 returns-in-None c =
