@@ -1,5 +1,7 @@
 pub mod TileView
 pub mod Tile
+pub mod TileBox
+pub mod LangCode
 pub mod Link
 pub mod Chain
 pub mod Context

@@ -5,6 +5,7 @@
 pub mod answer;
 pub mod context;
 pub mod grids;
+pub mod lang_code;
 pub mod lang_set;
 pub mod laws;
 pub mod link;
@@ -13,3 +14,4 @@ pub mod refusal;
 #[cfg(test)]
 mod tests;
 pub mod tile;
+pub mod tile_box;
