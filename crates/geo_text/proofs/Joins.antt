@@ -1,0 +1,46 @@
+-- A text that a loop puts together: what one more piece adds.
+use Rattle.std.proofs.Common.{◌≡◌, ◌∙◌, ◌+◌, ◌<◌, ℕ, List, [], ◌∷◌, ◌++◌, length, take, drop, map, refl, sym, ap, arith, encode_utf8_all, slice_index_or, add-zero, Some}
+use Rattle.std.specs.Prelude.{slice_get}
+use Rattle.std.specs.Char.{encode_utf8, to_ascii_lowercase}
+use Rattle.std.proofs.lemmas.List.{take_more, append_assoc, append-nil, length-drop, length-take, get_or-drop, map-append}
+use Rattle.std.proofs.lemmas.Option.{get_or_from_slice_get}
+use Rattle.geo_text.specs.Tokens.{joined}
+
+-- one more text, after a space
+joined-push : (x : List ℕ) (xs : List (List ℕ)) (y : List ℕ) → joined (x ∷ xs ++ y ∷ []) ≡ joined (x ∷ xs) ++ 32 ∷ y
+joined-push x [] y = refl
+joined-push x (z ∷ xs) y = ap (λ l. x ++ 32 ∷ l) (joined-push z xs y) ∙ sym (append_assoc x (32 ∷ joined (z ∷ xs)) (32 ∷ y))
+
+-- one more character
+encode_utf8_all-push : (cs : List ℕ) (c : ℕ) → encode_utf8_all (cs ++ c ∷ []) ≡ encode_utf8_all cs ++ encode_utf8 c
+encode_utf8_all-push [] c = append-nil (encode_utf8 c)
+encode_utf8_all-push (d ∷ cs) c = ap (λ l. encode_utf8 d ++ l) (encode_utf8_all-push cs c) ∙ sym (append_assoc (encode_utf8 d) (encode_utf8_all cs) (encode_utf8 c))
+
+-- one more text after some
+joined-more : (xs : List (List ℕ)) (y : List ℕ) → 0 < length xs → joined (xs ++ y ∷ []) ≡ joined xs ++ 32 ∷ y
+joined-more [] y h = absurd (omega (arith, h))
+joined-more (x ∷ xs) y h = joined-push x xs y
+
+-- the texts of a run joined, and the next
+pub joined-run : (xs : List (List ℕ)) (from n : ℕ) (y : List ℕ) (d : List ℕ) → from + 1 + n < length xs → slice_index_or xs (from + 1 + n) d ≡ y → joined (take (n + 1 + 1) (drop from xs)) ≡ (joined (take (n + 1) (drop from xs)) ++ 32 ∷ []) ++ y
+joined-run xs from n y d h is =
+    let within : n + 1 < length (drop from xs) = omega (arith, h, length-drop from xs) in
+    let place : from + (n + 1) ≡ from + 1 + n = omega arith in
+    let some : 0 < length (take (n + 1) (drop from xs)) = omega (arith, within, length-take (n + 1) (drop from xs)) in
+    ap joined (take_more (drop from xs) (n + 1) d within)
+    ∙ joined-more (take (n + 1) (drop from xs)) (slice_index_or (drop from xs) (n + 1) d) some
+    ∙ ap (λ z. joined (take (n + 1) (drop from xs)) ++ 32 ∷ z) (get_or-drop from xs (n + 1) d ∙ (ap (λ k. slice_index_or xs k d) place ∙ is))
+    ∙ sym (append_assoc (joined (take (n + 1) (drop from xs))) (32 ∷ []) y)
+
+-- a run of one text
+pub joined-one : (xs : List (List ℕ)) (from : ℕ) (y : List ℕ) → slice_get xs from ≡ Some y → from < length xs → joined (take 1 (drop from xs)) ≡ y
+joined-one xs from y is h =
+    let within : 0 < length (drop from xs) = omega (arith, h, length-drop from xs) in
+    ap joined (take_more (drop from xs) 0 y within) ∙ (get_or-drop from xs 0 y ∙ ap (λ k. slice_index_or xs k y) (add-zero from) ∙ get_or_from_slice_get xs from y y is)
+
+-- the bytes of a front in lower case, and of one more character
+pub lowered_more : (cs : List ℕ) (n d : ℕ) → n < length cs → encode_utf8_all (map to_ascii_lowercase (take (n + 1) cs)) ≡ encode_utf8_all (map to_ascii_lowercase (take n cs)) ++ encode_utf8 (to_ascii_lowercase (slice_index_or cs n d))
+lowered_more cs n d h =
+    ap (λ l. encode_utf8_all (map to_ascii_lowercase l)) (take_more cs n d h)
+    ∙ ap encode_utf8_all (map-append to_ascii_lowercase (take n cs) (slice_index_or cs n d ∷ []))
+    ∙ encode_utf8_all-push (map to_ascii_lowercase (take n cs)) (to_ascii_lowercase (slice_index_or cs n d))

@@ -1,0 +1,5 @@
+pub mod Normal
+pub mod Words
+pub mod Tokens
+pub mod Parts
+pub mod Numbers

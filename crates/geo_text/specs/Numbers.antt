@@ -1,0 +1,25 @@
+-- Numbers as digits.
+use Rattle.std.specs.Prelude.{ℕ, ◌+◌, ◌-◌, ◌*◌, List, [], ◌∷◌, ◌&&◌, ◌==◌, nat_lt, nat_le, length, fold, if◌then◌else◌, Option, Some, None, option_and_then}
+use Rattle.std.specs.Char.{is_ascii_digit}
+use Rattle.std.specs.List.{list_all, slice_split}
+
+-- the value of these digits
+abbrev pub value_of : List ℕ → ℕ
+value_of digits = fold (λ n d. n * 10 + (d - 48)) 0 digits
+
+-- a number is 1 to 10 digits, leading zeros allowed
+abbrev pub number_of : List ℕ → Option ℕ
+number_of text = if nat_le 1 (length text) && (nat_le (length text) 10 && list_all is_ascii_digit text) then Some (value_of text) else None
+
+-- the number, where it is below the bound
+abbrev pub below : ℕ → ℕ → Option ℕ
+below bound n = if nat_lt n bound then Some n else None
+
+-- the numbers that these fields spell, where each spells one
+abbrev pub numbers_of : List (List ℕ) → Option (List ℕ)
+numbers_of [] = Some []
+numbers_of (field ∷ fields) = option_and_then (λ n. option_and_then (λ ns. Some (n ∷ ns)) (numbers_of fields)) (number_of field)
+
+-- the numbers of a text, with a slash between each two
+abbrev pub slashed : List ℕ → Option (List ℕ)
+slashed text = numbers_of (slice_split (λ b. b == 47) text)

@@ -1,0 +1,163 @@
+//! Cutting bytes: at the first of a mark, and into words.
+
+ghost use Rattle.std.specs.Prelude.{◌≡◌, ◌∷◌, [], ◌<◌, ◌==◌, length, drop, position, IfSome, IsAscii, MatchOption, Decides, true, false};
+ghost use Rattle.std.specs.List.{slice_split, before_first, after_first};
+ghost use Rattle.geo_text.specs.Tokens.{is_ascii};
+ghost use Rattle.geo_text.specs.Words.{words_of, first_word, after_word, skip_spaces, IsWord};
+
+/// The place of the first of these bytes.
+fn place_of(text: &[u8], mark: u8) -> Option<usize>
+    ensures { result ≡ position (λ b. b == mark) text.now }
+{
+    text.iter().position(|b| *b == mark)
+}
+
+/// What stands before the first of these bytes and what stands after it; None where there is none.
+pub fn cut(text: &[u8], mark: u8) -> Option<(&[u8], &[u8])>
+    ensures parts { MatchOption result (slice_split (λ b. b == mark) text.now ≡ text.now ∷ [])
+        (λ p. slice_split (λ b. b == mark) text.now ≡ p.0.now ∷ slice_split (λ b. b == mark) p.1.now) }
+    ensures shorter { IfSome result (λ p. length p.1.now < length text.now) }
+{
+    match place_of(text, mark) {
+        Some(at) => Some((&text[..at], &text[at + 1..])),
+        None => None,
+    }
+}
+
+/// What stands in a text from a place on; nothing where the text is shorter.
+pub fn from(text: &[u8], place: usize) -> &[u8]
+    ensures { result.now ≡ drop place text.now }
+{
+    text.get(place..).unwrap_or_default()
+}
+
+/// What stands in a text before the first of these bytes, or all of it where there is none.
+pub fn before(text: &[u8], mark: u8) -> &[u8]
+    ensures { result.now ≡ before_first (λ b. b == mark) text.now }
+{
+    match place_of(text, mark) {
+        Some(at) => &text[..at],
+        None => text,
+    }
+}
+
+/// What stands in a text after the first of these bytes; nothing where there is none.
+pub fn after(text: &[u8], mark: u8) -> &[u8]
+    ensures { result.now ≡ after_first (λ b. b == mark) text.now }
+{
+    match place_of(text, mark) {
+        Some(at) => &text[at + 1..],
+        None => &text[text.len()..],
+    }
+}
+
+/// The text without the spaces at its beginning.
+pub fn skip_spaces(text: &[u8]) -> &[u8]
+    ensures { result.now ≡ skip_spaces text.now }
+{
+    let mut rest = text;
+    while let [b' ', more @ ..] = rest {
+        rest = more;
+    }
+    rest
+}
+
+/// What stands in a text before the first space, or all of it where there is none.
+pub fn first_word(text: &[u8]) -> &[u8]
+    ensures { result.now ≡ first_word text.now }
+{
+    before(text, b' ')
+}
+
+/// What stands in a text after the first space; nothing where there is none.
+pub fn after_word(text: &[u8]) -> &[u8]
+    ensures { result.now ≡ after_word text.now }
+{
+    after(text, b' ')
+}
+
+/// The first word of a text, whose words are separated by spaces, and what follows it; None where
+/// there is no word.
+pub fn next_word(text: &[u8]) -> Option<(&[u8], &[u8])>
+    ensures words { MatchOption result (words_of text.now ≡ []) (λ p. words_of text.now ≡ p.0.now ∷ words_of p.1.now) }
+    ensures shorter { IfSome result (λ p. length p.1.now < length text.now) }
+    ensures word { IfSome result (λ p. IsWord p.0.now) }
+{
+    let text = skip_spaces(text);
+    if text.is_empty() {
+        return None;
+    }
+    Some((first_word(text), after_word(text)))
+}
+
+/// The bytes are a word: not empty, and without a space.
+pub fn is_word(text: &[u8]) -> bool
+    ensures { Decides result (IsWord text.now) }
+{
+    if text.is_empty() {
+        return false;
+    }
+    !text.contains(&b' ')
+}
+
+/// The bytes as a text, where they are ASCII; else None.
+pub fn ascii(bytes: &[u8]) -> Option<&str>
+    ensures { MatchOption result (is_ascii bytes.now ≡ false) (λ text. (is_ascii bytes.now ≡ true) × (text.now ≡ bytes.now) × IsAscii bytes.now) }
+{
+    if !bytes.is_ascii() {
+        return None;
+    }
+    match std::str::from_utf8(bytes) {
+        Ok(text) => Some(text),
+        Err(_) => None,
+    }
+}
+
+#[cfg(test)]
+mod tests {
+    use super::*;
+    use std::test::Fail;
+
+    #[test]
+    fn cuts_at_the_first_mark(rt: HostRuntime) -> Result<(), Fail> {
+        let Some((left, right)) = cut(b"a,b,c", b',') else {
+            return Err(Fail::from("no mark"));
+        };
+        assert_eq!(rt; ascii(left), Some("a"));
+        assert_eq!(rt; ascii(right), Some("b,c"));
+        assert!(rt; cut(b"abc", b',').is_none());
+        assert_eq!(rt; ascii(before(b"a=b", b'=')), Some("a"));
+        assert_eq!(rt; ascii(after(b"a=b", b'=')), Some("b"));
+        assert_eq!(rt; ascii(after(b"ab", b'=')), Some(""));
+        assert_eq!(rt; ascii(from(b"abc", 1)), Some("bc"));
+        assert_eq!(rt; ascii(from(b"abc", 7)), Some(""));
+        Ok(())
+    }
+
+    #[test]
+    fn takes_word_after_word(rt: HostRuntime) -> Result<(), Fail> {
+        let Some((first, rest)) = next_word(b"  a bc") else {
+            return Err(Fail::from("no word"));
+        };
+        assert_eq!(rt; ascii(first), Some("a"));
+        let Some((second, rest)) = next_word(rest) else {
+            return Err(Fail::from("no second word"));
+        };
+        assert_eq!(rt; ascii(second), Some("bc"));
+        assert!(rt; next_word(rest).is_none());
+        assert!(rt; next_word(b"  ").is_none());
+        assert!(rt; is_word(b"ab"));
+        assert!(rt; !is_word(b"a b"));
+        assert!(rt; !is_word(b""));
+        assert_eq!(rt; ascii(first_word(b"ab c d")), Some("ab"));
+        assert_eq!(rt; ascii(after_word(b"ab c d")), Some("c d"));
+        Ok(())
+    }
+
+    #[test]
+    fn takes_ascii_alone(rt: HostRuntime) -> Result<(), Fail> {
+        assert_eq!(rt; ascii(b"ab"), Some("ab"));
+        assert!(rt; ascii(&[97, 195, 164]).is_none());
+        Ok(())
+    }
+}

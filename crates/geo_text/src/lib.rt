@@ -1,0 +1,11 @@
+//! Texts: their tokens, the replacement of tokens, numbers as digits, and cutting bytes into words.
+#![tactic(auto)]
+
+pub mod cut;
+pub mod number;
+pub mod text;
+pub mod token_map;
+pub mod tokens;
+
+/// Want of memory: room was asked for and refused.
+pub use std::alloc::AllocError as Memory;

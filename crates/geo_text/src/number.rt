@@ -1,0 +1,38 @@
+//! Numbers as digits.
+
+ghost use Rattle.std.specs.Prelude.{◌≡◌};
+ghost use Rattle.geo_text.specs.Numbers.{number_of};
+
+/// The number that a text spells: 1 to 10 digits, leading zeros allowed; else None.
+pub fn number(text: &[u8]) -> Option<u64>
+    ensures { result ≡ number_of text.now }
+{
+    if text.is_empty() || text.len() > 10 {
+        return None;
+    }
+    let mut n: u64 = 0;
+    for b in text {
+        if !b.is_ascii_digit() {
+            return None;
+        }
+        n = n * 10 + u64::from(*b - b'0');
+    }
+    Some(n)
+}
+
+#[cfg(test)]
+mod tests {
+    use super::*;
+    use std::test::Fail;
+
+    #[test]
+    fn reads_one_to_ten_digits(rt: HostRuntime) -> Result<(), Fail> {
+        assert_eq!(rt; number(b"0007"), Some(7));
+        assert_eq!(rt; number(b"9999999999"), Some(9_999_999_999));
+        assert_eq!(rt; number(b"12345678901"), None);
+        assert_eq!(rt; number(b""), None);
+        assert_eq!(rt; number(b"+1"), None);
+        assert_eq!(rt; number(b"1 "), None);
+        Ok(())
+    }
+}

@@ -1,0 +1,182 @@
+//! Texts and lists of texts that own their bytes.
+
+ghost use Rattle.std.specs.Prelude.{◌≡◌, ℕ, ◌<◌, List, [], ◌∷◌, ◌++◌, length, slice_get, Some, IfOk, OnOk, OnErr, string_bytes};
+
+use crate::Memory;
+use std::alloc::Global;
+use std::marker::Model;
+
+/// A text, seen as the list of its bytes, which are UTF-8.
+#[derive(Drop)]
+pub struct Text {
+    string: String,
+}
+
+impl Model for Text {
+    ghost use Rattle.std.specs.Prelude.{List, ℕ, string_bytes};
+
+    ghost Value = { List ℕ };
+
+    ghost view = { λ t. string_bytes t.string };
+}
+
+impl Text {
+    /// The empty text.
+    pub fn new(alloc: Global) -> Text
+        ensures { result ≡ [] }
+    {
+        Text {
+            string: String::new(alloc),
+        }
+    }
+
+    /// The text that this string has.
+    pub fn from_string(string: String) -> Text
+        ensures { result ≡ string_bytes string }
+    {
+        Text { string }
+    }
+
+    /// A text with these bytes.
+    pub fn of(alloc: Global, text: &str) -> Result<Text, Memory>
+        ensures { IfOk result (λ t. t ≡ text.now) }
+    {
+        Ok(Text {
+            string: String::from_str(alloc, text)?,
+        })
+    }
+
+    /// Adds a text at the end; after want of memory the text is as before.
+    pub fn push(&mut self, text: &str) -> Result<(), Memory>
+        ensures ok { OnOk result (self.new ≡ self.old ++ text.now) }
+        ensures err { OnErr result (self.new ≡ self.old) }
+    {
+        self.string.push_str(text)?;
+        Ok(())
+    }
+
+    /// The text.
+    pub fn as_str(&self) -> &str
+        ensures { result.now ≡ self.now }
+    {
+        self.string.as_str()
+    }
+
+    /// An equal text.
+    pub fn copy(&self) -> Result<Text, Memory>
+        ensures { IfOk result (λ t. t ≡ self.now) }
+    {
+        Ok(Text {
+            string: self.string.clone()?,
+        })
+    }
+
+    /// The string with the bytes of the text.
+    pub fn into_string(self) -> String
+        ensures { string_bytes result ≡ self }
+    {
+        self.string
+    }
+}
+
+/// Tokens, seen as a list of texts.
+#[derive(Drop)]
+pub struct Tokens {
+    list: Vec<Text>,
+}
+
+impl Model for Tokens {
+    ghost use Rattle.std.specs.Prelude.{List, ℕ};
+
+    ghost Value = { List (List ℕ) };
+
+    ghost view = { λ t. t.list.items };
+}
+
+impl Tokens {
+    /// No tokens.
+    pub fn new(alloc: Global) -> Tokens
+        ensures { result ≡ [] }
+    {
+        Tokens {
+            list: Vec::new(alloc),
+        }
+    }
+
+    /// Adds a token at the end; after want of memory the list is as before.
+    pub fn push(&mut self, token: Text) -> Result<(), Memory>
+        ensures ok { OnOk result (self.new ≡ self.old ++ token ∷ []) }
+        ensures err { OnErr result (self.new ≡ self.old) }
+    {
+        self.list.push(token)?;
+        Ok(())
+    }
+
+    /// The number of tokens.
+    pub fn len(&self) -> usize
+        ensures { result ≡ length self.now }
+    {
+        self.list.len()
+    }
+
+    /// The token at a place, counted from 0.
+    pub fn at(&self, place: usize) -> &Text
+        requires { place < length self.now }
+        ensures { slice_get self.now place ≡ Some result.now }
+    {
+        &self.list[place]
+    }
+
+    /// The tokens.
+    pub fn as_slice(&self) -> &[Text]
+        ensures { result.now ≡ self.now }
+    {
+        self.list.as_slice()
+    }
+
+    /// Equal tokens.
+    pub fn copy(&self) -> Result<Tokens, Memory>
+        ensures { IfOk result (λ t. t ≡ self.now) }
+    {
+        let mut list = Vec::with_capacity(*self.list.allocator(), self.list.len())?;
+        for token in &self.list {
+            list.push(token.copy()?)?;
+        }
+        Ok(Tokens { list })
+    }
+}
+
+#[cfg(test)]
+mod tests {
+    use super::*;
+    use std::test::Fail;
+
+    #[test]
+    fn keeps_its_bytes(rt: HostRuntime) -> Result<(), Fail> {
+        let alloc = rt.alloc();
+        let mut text = Text::new(alloc);
+        text.push("new")?;
+        text.push(" york")?;
+        let copy = text.copy()?;
+        text.push("!")?;
+        assert_eq!(rt; text.as_str(), "new york!");
+        assert_eq!(rt; copy.as_str(), "new york");
+        assert_eq!(rt; Text::from_string(copy.into_string()).as_str(), "new york");
+        Ok(())
+    }
+
+    #[test]
+    fn keeps_tokens_in_order(rt: HostRuntime) -> Result<(), Fail> {
+        let alloc = rt.alloc();
+        let mut list = Tokens::new(alloc);
+        list.push(Text::of(alloc, "main")?)?;
+        list.push(Text::of(alloc, "street")?)?;
+        let copy = list.copy()?;
+        list.push(Text::of(alloc, "north")?)?;
+        assert_eq!(rt; list.len(), 3);
+        assert_eq!(rt; copy.len(), 2);
+        assert_eq!(rt; copy.at(0).as_str(), "main");
+        assert_eq!(rt; copy.at(1).as_str(), "street");
+        Ok(())
+    }
+}

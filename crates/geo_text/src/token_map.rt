@@ -1,0 +1,112 @@
+//! What tokens are replaced by.
+
+ghost use Rattle.std.specs.Prelude.{◌≡◌, [], length, IfOk, OnOk, OnErr, option_map, bytes_eq, Option, Some, ℕ, List, if◌then◌else◌};
+ghost use Rattle.geo_text.specs.Tokens.{replacement, AreWords, Rise};
+ghost use Rattle.geo_text.specs.Words.{IsWord};
+
+use crate::Memory;
+use crate::text::Text;
+use std::alloc::Global;
+use std::collections::BTreeMap;
+use std::marker::Model;
+
+/// What tokens are replaced by, seen as the list of tokens and their replacements, rising by the
+/// bytes of the token. Each is a word: not empty, and without a space.
+#[derive(Drop)]
+pub struct TokenMap {
+    words: BTreeMap<String, String>,
+}
+
+impl Model for TokenMap {
+    ghost use Rattle.std.specs.Prelude.{map, string_bytes};
+    ghost use Rattle.geo_text.specs.Tokens.{Replacements, AreWords};
+
+    ghost Value = { Replacements };
+
+    ghost view = { λ m. map (λ e. (string_bytes e.0, string_bytes e.1)) m.words.entries };
+
+    ghost invariant = { λ m. AreWords (map (λ e. (string_bytes e.0, string_bytes e.1)) m.words.entries) };
+}
+
+impl TokenMap {
+    /// No replacement; takes no memory.
+    pub fn new(alloc: Global) -> TokenMap
+        ensures { result ≡ [] }
+    {
+        TokenMap {
+            words: BTreeMap::new(alloc),
+        }
+    }
+
+    /// The number of tokens that are replaced.
+    pub fn len(&self) -> usize
+        ensures value { result ≡ length self.now }
+        ensures rises { Rise self.now }
+        ensures is { AreWords self.now }
+    {
+        self.words.len()
+    }
+
+    /// What the token is replaced by; None where it stays as it is.
+    pub fn get(&self, token: &str) -> Option<&str>
+        ensures { option_map (λ t. t.now) result ≡ replacement self.now token.now }
+    {
+        match self.words.get(token) {
+            Some(text) => Some(text.as_str()),
+            None => None,
+        }
+    }
+
+    /// From now on the token `from` is replaced by `to`, whatever it was replaced by before; the
+    /// other tokens are replaced as before. After want of memory the map is as before.
+    pub fn insert(&mut self, from: Text, to: Text) -> Result<(), Memory>
+        requires token { IsWord from }
+        requires text { IsWord to }
+        ensures ok { OnOk result ((q : List ℕ) → replacement self.new q ≡ (if bytes_eq from q then Some to else replacement self.old q)) }
+        ensures err { OnErr result (self.new ≡ self.old) }
+    {
+        self.words.insert(from.into_string(), to.into_string())?;
+        Ok(())
+    }
+
+    /// An equal map.
+    pub fn copy(&self) -> Result<TokenMap, Memory>
+        ensures { IfOk result (λ m. m ≡ self.now) }
+    {
+        Ok(TokenMap {
+            words: self.words.clone()?,
+        })
+    }
+}
+
+#[cfg(test)]
+mod tests {
+    use super::*;
+    use crate::cut::is_word;
+    use std::test::Fail;
+
+    /// The text, where it is a word.
+    fn word(alloc: Global, text: &str) -> Result<Text, Fail>
+        ensures { IfOk result (λ t. IsWord t) }
+    {
+        if !is_word(text.as_bytes()) {
+            return Err(Fail::from("no word"));
+        }
+        Ok(Text::of(alloc, text)?)
+    }
+
+    #[test]
+    fn keeps_the_last_replacement(rt: HostRuntime) -> Result<(), Fail> {
+        let alloc = rt.alloc();
+        let mut replace = TokenMap::new(alloc);
+        replace.insert(word(alloc, "street")?, word(alloc, "st")?)?;
+        replace.insert(word(alloc, "avenue")?, word(alloc, "av")?)?;
+        replace.insert(word(alloc, "street")?, word(alloc, "str")?)?;
+        let copy = replace.copy()?;
+        assert_eq!(rt; copy.len(), 2);
+        assert_eq!(rt; copy.get("street"), Some("str"));
+        assert_eq!(rt; copy.get("avenue"), Some("av"));
+        assert_eq!(rt; copy.get("st"), None);
+        Ok(())
+    }
+}
