@@ -1,0 +1,4 @@
+mod Accepted
+mod Bars
+mod BoxTexts
+mod Codes

@@ -1,0 +1,3 @@
+pub mod QueryView
+pub mod Query
+pub mod Examples
