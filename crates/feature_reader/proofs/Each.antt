@@ -2,23 +2,19 @@
 use Rattle.std.proofs.Common.{◌≡◌, ◌∙◌, ◌+◌, ◌<◌, ◌≤◌, ◌&&◌, ℕ, true, false, cond, nat_le, suc, arith, List, [], ◌∷◌, ◌++◌, length, get_or, map, drop, Option, None, Some, refl, sym, ap, append_assoc, drop-cons, add-one}
 use Rattle.std.specs.Prelude.{option_and_then}
 use Rattle.std.proofs.lemmas.List.{length-map}
-use Rattle.std.proofs.lemmas.Bool.{and_parts, leb-true, le-leb, lt-leb}
+use Rattle.std.proofs.lemmas.Bool.{and_parts, leb-true, le-leb}
 use Rattle.geo_base.specs.TileView.{TileView}
 use Rattle.serde_json.specs.Data.{Data, null, boolean, number, string, array, object}
 use Rattle.serde_json.specs.Find.{as_str, as_array}
 use Rattle.serde_json.specs.View.{view, items_of, items_view}
 use Rattle.serde_json.specs.declared.value.Value.{Value}
-use Rattle.feature_reader.specs.Json.{each_of, list_of, present}
-use Rattle.feature_reader.specs.Numbers.{tile_of}
-use Rattle.feature_reader.specs.Feature.{some_tiles, tiles_of}
+use Rattle.geo_layer.specs.Json.{each_of, list_of, present}
+use Rattle.feature_reader.specs.Tiles.{tile_of}
+use Rattle.feature_reader.specs.Tiles.{some_tiles, tiles_of}
 
 -- what was made so far, and what the rest makes
 abbrev pub onto : {B : Type 0} → List B → Option (List B) → Option (List B)
 onto made rest = option_and_then (λ ys. Some (made ++ ys)) rest
-
-pub onto_nothing : {B : Type 0} (o : Option (List B)) → o ≡ onto [] o
-onto_nothing None = refl
-onto_nothing (Some ys) = refl
 
 -- one more is made before the rest
 pub onto_one : {B : Type 0} (made : List B) (y : B) (o : Option (List B)) → onto made (option_and_then (λ ys. Some (y ∷ ys)) o) ≡ onto (made ++ y ∷ []) o
@@ -54,11 +50,6 @@ each_of-map g f (x ∷ xs) = ap (λ o. option_and_then (λ y. option_and_then (�
 pub no_tiles : (vs : List Value) → length vs ≡ 0 → some_tiles (map view vs) ≡ None
 no_tiles [] h = refl
 no_tiles (v ∷ vs) h = absurd (omega (arith, h))
-
-pub many_tiles : (vs : List Value) → 4096 < length vs → some_tiles (map view vs) ≡ None
-many_tiles vs h =
-    let many : length (map view vs) ≡ length vs = length-map _ _ in
-    rw (many, lt-leb (length vs) 4096 h, le-leb 1 (length vs) (omega (arith, h))) refl
 
 -- the entries name what each of them names
 pub some_tiles-each : (vs : List Value) → 0 < length vs → length vs ≤ 4096 → each_of (λ v. option_and_then tile_of (as_str (view v))) vs ≡ some_tiles (map view vs)

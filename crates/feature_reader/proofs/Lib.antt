@@ -1,12 +1,11 @@
-mod AsciiTokens
-mod Joins
-pub mod SplitParts
+mod CollectedFacts
 mod Tables
 mod TileTexts
 pub mod Each
-pub mod PlainFacts
-mod Lists
+mod PlainFacts
+mod SimpleFacts
 mod Rising
-mod Words
+mod PhraseFacts
+mod Levels
 mod FeatureFacts
 mod WorkedFeatures

@@ -15,9 +15,9 @@ use Rattle.std.proofs.lemmas.Bool.{and_parts}
 use Rattle.std.proofs.lemmas.Bool.Decides.{nat_tests}
 use Rattle.geo_base.proofs.Members.{member_here, member_there, member_cases, no_member}
 use Rattle.geo_base.specs.TileView.{TileView}
-use Rattle.feature_reader.proofs.Lists.{all_indexed, get_or_again}
+use Rattle.geo_text.proofs.Lists.{all_indexed, get_or_again}
 use Rattle.feature_reader.specs.FeatureView.{tile_cmp}
-use Rattle.feature_reader.specs.Feature.{with_tile, rising}
+use Rattle.feature_reader.specs.Tiles.{with_tile, rising}
 
 -- ---- lists in a strict order
 

@@ -2,8 +2,9 @@
 use Rattle.std.proofs.Common.{◌≡◌, ◌∙◌, ℕ, List, ◌∷◌, Option, None, Some, IfSome, refl, ap, ◌==◌}
 use Rattle.std.specs.Prelude.{option_and_then}
 use Rattle.std.specs.List.{slice_split}
-use Rattle.feature_reader.proofs.SplitParts.{some_part}
-use Rattle.feature_reader.specs.Numbers.{numbers_of, number_of, tile_of, tile_of_numbers}
+use Rattle.geo_text.proofs.SplitParts.{some_part}
+use Rattle.geo_text.specs.Numbers.{numbers_of, number_of}
+use Rattle.feature_reader.specs.Tiles.{tile_of, tile_of_numbers}
 
 -- where a first number and the others are there, there is a first
 both : (o : Option ℕ) (p : Option (List ℕ)) → IfSome (option_and_then (λ n. option_and_then (λ ns. Some (n ∷ ns)) p) o) (λ ns. (n : ℕ) × (ms : List ℕ) × (ns ≡ n ∷ ms))

@@ -1,12 +1,19 @@
 -- Worked texts of features, for a layer of zoom 6.
-use Rattle.std.specs.Prelude.{ℕ, List, codes, [], ◌∷◌, Result}
+use Rattle.std.specs.Prelude.{ℕ, List, codes, [], ◌∷◌, None, Result}
 use Rattle.feature_reader.specs.FeatureView.{FeatureView}
-use Rattle.feature_reader.specs.Feature.{feature_of, all_languages}
+use Rattle.feature_reader.specs.declared.phrase.Phrase.{Phrase}
+use Rattle.geo_layer.specs.Layer.{LayerView}
+use Rattle.feature_reader.specs.Languages.{all_languages}
+use Rattle.feature_reader.specs.Feature.{feature_of}
 use Rattle.feature_reader.specs.declared.feature.FeatureFault.{FeatureFault}
 
--- the feature that the text stands for at zoom 6
+-- a layer of places
+abbrev pub place : LayerView
+place = record { name = codes "place"; zoom = 6; stack = None; scoremax = 15; tokens = [] }
+
+-- the feature of that layer that the text stands for, where no language is listed
 abbrev pub read : List ℕ → Result FeatureView FeatureFault
-read text = feature_of 6 text
+read text = feature_of place [] text
 
 -- New York, with one of its tiles listed twice
 abbrev pub new_york_text : List ℕ
@@ -21,3 +28,7 @@ new_york =
       phrases = record { text = codes "new york"; set = record { bits = all_languages }; relev = 100 } ∷ [];
       tiles = record { z = 6; x = 32; y = 32 } ∷ record { z = 6; x = 33; y = 32 } ∷ [];
     }
+
+-- a feature with these phrases and the first tile
+abbrev pub named : List Phrase → FeatureView
+named phrases = record { id = 1; score = 0; phrases = phrases; tiles = record { z = 6; x = 0; y = 0 } ∷ [] }

@@ -4,7 +4,8 @@ use Rattle.std.specs.Ordering.{nat_cmp, ordering_then}
 use Rattle.std.specs.declared.cmp.Ordering.{Ordering}
 use Rattle.std.specs.declared.cmp.Ordering.TheVariants.{Less}
 use Rattle.geo_base.specs.TileView.{TileView}
-use Rattle.feature_reader.specs.Tokens.{joined}
+use Rattle.geo_text.specs.Tokens.{joined}
+use Rattle.geo_text.specs.Words.{IsWord}
 use Rattle.feature_reader.specs.declared.phrase.Phrase.{Phrase}
 
 -- a feature: its id, its level of score, its phrases and its tiles
@@ -17,11 +18,6 @@ pub record FeatureView : Type 0 where
 -- the order of tiles of one zoom: by column, then by row
 abbrev pub tile_cmp : TileView → TileView → Ordering
 tile_cmp t u = ordering_then (nat_cmp t.x u.x) (nat_cmp t.y u.y)
-
--- a word of a phrase: not empty, and without a space
-pub record IsWord (word : List ℕ) : Type 0 where
-  pub some : 0 < length word
-  pub whole : All (λ b. b ≢ 32) word
 
 -- the text is 1 to 20 words with one space between them
 abbrev pub IsPhraseText : List ℕ → Type 0

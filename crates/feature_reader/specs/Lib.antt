@@ -1,9 +1,9 @@
-pub mod Normal
-pub mod Tokens
-pub mod Numbers
-pub mod Json
-pub mod Layer
+pub mod Tiles
+pub mod Languages
 pub mod FeatureView
 pub mod Feature
+pub mod Collected
+pub mod Simple
+pub mod Plain
 pub mod Table
 pub mod Examples

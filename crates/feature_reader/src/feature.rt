@@ -16,12 +16,16 @@ pub enum FeatureFault {
     Json,
     /// `id` is no whole number below 2^26.
     Id,
-    /// `carmen:text` is no string.
+    /// `carmen:text` is absent or no string, or a text in a language, `carmen:text_CODE`, is there and no string.
     Text,
     /// `carmen:zxy` is no list of 1 to 4,096 strings that each name a tile.
     Zxy,
     /// A tile has another zoom than the layer.
     Zoom,
+    /// `carmen:score` is there and no whole number from -2^63 to 2^64 - 1.
+    Score,
+    /// `carmen:relev` is there and isn't 40, 60, 80 or 100.
+    Relev,
 }
 
 /// A feature of a layer: what it is found by, and where it lies.

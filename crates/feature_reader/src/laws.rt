@@ -1,7 +1,9 @@
-//! Worked features, computed from the definitions, as the contract of a function that does nothing.
+//! Worked features and levels, computed from the definitions, as the contracts of functions that do nothing.
 
-ghost use Rattle.std.specs.Prelude.{◌≡◌, codes, Ok, Err};
-ghost use Rattle.feature_reader.specs.Examples.{read, new_york_text, new_york};
+ghost use Rattle.std.specs.Prelude.{◌≡◌, ◌∷◌, [], pos, negsuc, codes, Ok, Err};
+ghost use Rattle.feature_reader.specs.Collected.{phrase_at};
+ghost use Rattle.feature_reader.specs.Examples.{read, new_york_text, new_york, named};
+ghost use Rattle.feature_reader.specs.Feature.{level};
 ghost use Rattle.feature_reader.specs.declared.feature.FeatureFault.TheVariants as fault;
 
 /// Texts and the features or first faults that they stand for, in a layer of zoom 6.
@@ -13,4 +15,21 @@ pub fn worked_features()
     ensures no_tile { read (codes "{\"id\":1,\"properties\":{\"carmen:text\":\"a\",\"carmen:zxy\":[\"6/64/0\"]}}") ≡ Err fault.Zxy }
     ensures unfinished { read (codes "{\"id\":1") ≡ Err fault.Json }
     ensures new_york { read new_york_text ≡ Ok new_york }
+    ensures below_zero { read (codes "{\"id\":1,\"properties\":{\"carmen:text\":\"a\",\"carmen:zxy\":[\"6/0/0\"],\"carmen:score\":-3}}") ≡ Ok (named (phrase_at 100 (codes "a") ∷ [])) }
+    ensures broken_score { read (codes "{\"id\":1,\"properties\":{\"carmen:text\":\"a\",\"carmen:zxy\":[\"6/0/0\"],\"carmen:score\":1.5}}") ≡ Err fault.Score }
+    ensures other_relevance { read (codes "{\"id\":1,\"properties\":{\"carmen:text\":\"a\",\"carmen:zxy\":[\"6/0/0\"],\"carmen:relev\":50}}") ≡ Err fault.Relev }
+    ensures two_parts { read (codes "{\"id\":1,\"properties\":{\"carmen:text\":\"New York,NYC\",\"carmen:zxy\":[\"6/0/0\"]}}") ≡ Ok (named (phrase_at 100 (codes "new york") ∷ phrase_at 80 (codes "nyc") ∷ [])) }
+    ensures empty_part { read (codes "{\"id\":1,\"properties\":{\"carmen:text\":\"a,,b\",\"carmen:zxy\":[\"6/0/0\"]}}") ≡ Ok (named (phrase_at 100 (codes "a") ∷ phrase_at 80 (codes "b") ∷ [])) }
+    ensures repeated_part { read (codes "{\"id\":1,\"properties\":{\"carmen:text\":\"a,a,a\",\"carmen:zxy\":[\"6/0/0\"]}}") ≡ Ok (named (phrase_at 100 (codes "a") ∷ phrase_at 80 (codes "a") ∷ [])) }
+{}
+
+/// Levels of scores where 1,000 is the highest.
+pub fn worked_levels()
+    ensures none { level 1000 (pos 0) ≡ 0 }
+    ensures rounded_up { level 1000 (pos 1) ≡ 1 }
+    ensures below_a_step { level 1000 (pos 66) ≡ 1 }
+    ensures above_a_step { level 1000 (pos 67) ≡ 2 }
+    ensures highest { level 1000 (pos 1000) ≡ 15 }
+    ensures above_all { level 1000 (pos 18446744073709551615) ≡ 15 }
+    ensures below_zero { level 1000 (negsuc 999) ≡ 0 }
 {}

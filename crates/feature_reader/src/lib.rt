@@ -1,15 +1,14 @@
-//! Features: the tokens of texts, the layer and the feature that a JSON text stands for, and the table of features.
+//! Features: the feature that a JSON text stands for, and the table of features.
 #![tactic(auto)]
 
 pub mod feature;
-pub mod json;
 pub mod laws;
-pub mod layer;
-pub mod number;
 pub mod phrase;
 pub mod plain;
 pub mod read_feature;
+mod score;
+pub mod simple;
 pub mod table;
-pub mod text;
+mod text_phrases;
+mod tile_text;
 pub mod tiles;
-pub mod tokens;

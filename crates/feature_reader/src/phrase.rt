@@ -3,9 +3,9 @@
 ghost use Rattle.std.specs.Prelude.{◌≡◌, List, [], ◌∷◌, ◌++◌, ◌<◌, length, slice_get, Some, OnOk, OnErr, IfOk};
 ghost use Rattle.feature_reader.specs.declared.phrase.Phrase.{Phrase};
 
-use crate::text::Text;
 use geo_base::lang_set::LangSet;
 use geo_base::refusal::Memory;
+use geo_text::text::Text;
 use std::alloc::Global;
 use std::marker::Model;
 

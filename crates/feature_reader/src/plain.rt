@@ -1,23 +1,24 @@
 //! Which values ask for nothing but one phrase of ASCII.
 
-ghost use Rattle.std.specs.Prelude.{◌≡◌, IsAscii, Some, option_and_then, codes, length, not};
-ghost use Rattle.std.specs.Char.{is_ascii_alphanumeric};
+ghost use Rattle.std.specs.Prelude.{◌≡◌, true, Some, option_and_then, codes};
 ghost use Rattle.serde_json.specs.Find.{as_str, as_object};
 ghost use Rattle.serde_json.specs.View.{view, members_view};
-ghost use Rattle.feature_reader.specs.Feature.{is_plain, are_plain, is_plain_name, is_plain_text, has_plain_members};
-ghost use Rattle.feature_reader.specs.Json.{member};
-ghost use Rattle.feature_reader.specs.Tokens.{tokens_of};
+ghost use Rattle.geo_layer.specs.Json.{member};
+ghost use Rattle.feature_reader.specs.Plain.{is_plain, are_plain, is_plain_name, is_plain_text, has_plain_members};
+ghost use Rattle.feature_reader.specs.Simple.{is_simple};
 
-use crate::tokens::is_break;
+use geo_text::tokens::count_tokens;
 use serde_json::Value;
 use serde_json::value::Map;
 
 /// Whether the feature that the value stands for has one phrase of ASCII and neither score nor
 /// relevance: of its properties no member is `carmen:score` or `carmen:relev`, none begins with
 /// `carmen:text_`, and `carmen:text`, where it is a string, is ASCII without a comma and has 1 to
-/// 20 tokens. A value without properties asks for nothing, so it is plain.
+/// 20 tokens. A value without properties asks for nothing, so it is plain. A plain value is simple
+/// too, as [`is_simple`](crate::simple::is_simple) tells. Takes no memory.
 pub fn is_plain(value: &Value) -> bool
-    ensures { result ≡ is_plain (view value.now) }
+    ensures plain { result ≡ is_plain (view value.now) }
+    ensures simple { result ≡ true → is_simple (view value.now) ≡ true }
 {
     match value.get("properties") {
         Some(properties) => are_plain(properties),
@@ -71,17 +72,6 @@ fn is_plain_text(text: &str) -> bool
     if text.as_bytes().contains(&b',') {
         return false;
     }
-    let tokens = token_count(text);
+    let tokens = count_tokens(text);
     1 <= tokens && tokens <= 20
-}
-
-/// The number of tokens of an ASCII text.
-fn token_count(text: &str) -> usize
-    requires { IsAscii text.now }
-    ensures { result ≡ length (tokens_of text.now) }
-{
-    text.as_bytes()
-        .split(is_break)
-        .filter(|part| !part.is_empty())
-        .count()
 }

@@ -70,8 +70,8 @@ impl FeatureTable {
         }
     }
 
-    /// Takes a feature of a layer, in the place of the one of its layer and id where one stood.
-    /// After want of memory the table is as before.
+    /// Takes a feature of a layer into a table of fewer than 16, in the place of the one of its
+    /// layer and id where one stood. After want of memory the table is as before.
     pub fn take(&mut self, layer: u8, f: Feature) -> Result<Taken, Memory>
         requires { length self.old < 16 }
         ensures answer { IfOk result (λ taken. taken ≡ put_answer self.old layer f) }
@@ -126,21 +126,23 @@ impl FeatureTable {
 #[cfg(test)]
 mod tests {
     use super::*;
-    use crate::json::value_of;
-    use crate::layer::Layer;
     use crate::plain::is_plain;
     use crate::read_feature::feature_of_value;
-    use crate::text::Text;
+    use geo_layer::json::value_of;
+    use geo_layer::langs::Langs;
+    use geo_layer::layer::Layer;
+    use geo_text::text::Text;
     use std::test::Fail;
 
     /// The feature that a plain text stands for in a layer of zoom 6.
     fn feature_of(alloc: Global, text: &str) -> Result<Feature, Fail> {
-        let layer = Layer::new(Text::of(alloc, "place")?, 6);
+        let layer = Layer::new(alloc, Text::of(alloc, "place")?, 6);
+        let langs = Langs::new(alloc);
         let value = value_of(alloc, text.as_bytes())?.ok_or("no JSON")?;
         if !is_plain(&value) {
             return Err(Fail::from("not plain"));
         }
-        match feature_of_value(alloc, &layer, &value) {
+        match feature_of_value(alloc, &layer, &langs, &value) {
             Ok(feature) => Ok(feature),
             Err(_) => Err(Fail::from("no feature")),
         }

@@ -1,4 +1,4 @@
-use Rattle.feature_reader.proofs.WorkedFeatures.{no_id, large_id, no_tiles, other_zoom, no_tile, unfinished, good}
+use Rattle.feature_reader.proofs.WorkedFeatures.{no_id, large_id, no_tiles, other_zoom, no_tile, unfinished, good, below_zero, broken_score, other_relevance, two_parts, empty_part, repeated_part}
 use Rattle.feature_reader.proofs.laws.worked_features.Goals as goal
 
 pub returns : goal.returns
@@ -11,4 +11,10 @@ returns c =
       no_tile = no_tile;
       unfinished = unfinished;
       new_york = good;
+      below_zero = below_zero;
+      broken_score = broken_score;
+      other_relevance = other_relevance;
+      two_parts = two_parts;
+      empty_part = empty_part;
+      repeated_part = repeated_part;
     }

@@ -2,7 +2,7 @@ use Rattle.std.proofs.Common.{◌∙◌, rules, tests, map}
 use Rattle.std.specs.Prelude.{string_bytes}
 use Rattle.std.proofs.lemmas.Iterator.Consumers.{YieldsList-from_rest}
 use Rattle.std.proofs.lemmas.Iterator.Search.{all_from_yields_List}
-use Rattle.feature_reader.specs.Feature.{is_plain_name}
+use Rattle.feature_reader.specs.Plain.{is_plain_name}
 use Rattle.feature_reader.proofs.PlainFacts.{plain_members}
 use Rattle.feature_reader.proofs.plain.has_plain_members.Goals as goal
 

@@ -2,8 +2,8 @@ use Rattle.std.proofs.Common.{◌≡◌, drop}
 use Rattle.std.specs.Prelude.{option_and_then}
 use Rattle.serde_json.specs.Find.{as_str}
 use Rattle.serde_json.specs.View.{view}
-use Rattle.feature_reader.specs.Json.{each_of}
-use Rattle.feature_reader.specs.Numbers.{tile_of}
+use Rattle.geo_layer.specs.Json.{each_of}
+use Rattle.feature_reader.specs.Tiles.{tile_of}
 use Rattle.feature_reader.proofs.Each.{onto}
 use Rattle.feature_reader.proofs.read_feature.tiles_in.Given as goal
 

@@ -3,7 +3,7 @@ use Rattle.std.specs.Prelude.{option_and_then, codes}
 use Rattle.std.proofs.lemmas.Result.{IfOk-weaker}
 use Rattle.serde_json.specs.Find.{as_array, get}
 use Rattle.serde_json.specs.View.{view, items_view}
-use Rattle.feature_reader.specs.Feature.{some_tiles}
+use Rattle.feature_reader.specs.Tiles.{some_tiles}
 use Rattle.feature_reader.proofs.Each.{tiles_of-values}
 use Rattle.feature_reader.proofs.read_feature.tiles_of.Goals as goal
 

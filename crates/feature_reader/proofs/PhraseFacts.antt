@@ -1,0 +1,107 @@
+-- What the type of a feature keeps of its phrases, and of its other parts.
+use Rattle.std.proofs.Common.{◌≡◌, ◌≢◌, ◌∙◌, ◌<◌, ◌≤◌, ◌==◌, ℕ, true, false, cond, not, List, [], ◌∷◌, length, map, filter, refl, sym, ap, arith, Option, None, Some, unwrap_or, inr, inl, All}
+use Rattle.std.specs.Prelude.{bytes_eq, AllPairs, IfSome}
+use Rattle.std.specs.List.{list_all}
+use Rattle.std.proofs.lemmas.Bool.{and_parts, leb-true, not-true}
+use Rattle.std.proofs.lemmas.List.Elements.{All-nil, All-cons, All-head, All-tail, All-filter, All-map, All-weaker, filter_passes}
+use Rattle.std.proofs.lemmas.List.Kept.{AllPairs-cons, AllPairs-filter}
+use Rattle.std.proofs.lemmas.Map.Entries.{All-lookup}
+use Rattle.geo_base.specs.TileView.{TileView}
+use Rattle.geo_text.specs.Tokens.{Replacements, AreWords, tokens_of, replacement, replaced, joined, are_some_tokens}
+use Rattle.geo_text.specs.Words.{IsWord}
+use Rattle.geo_text.specs.Parts.{pieces, ranked}
+use Rattle.geo_text.proofs.Words.{tokens_are_words}
+use Rattle.feature_reader.specs.FeatureView.{IsFeature, IsPhraseText, IsRelevance}
+use Rattle.feature_reader.specs.Languages.{all_languages}
+use Rattle.feature_reader.specs.Tiles.{rising}
+use Rattle.feature_reader.specs.Feature.{phrases_of, same_phrase, distinct}
+use Rattle.feature_reader.specs.declared.phrase.Phrase.{Phrase}
+use Rattle.feature_reader.proofs.CollectedFacts.{same_itself}
+use Rattle.feature_reader.proofs.Rising.{rising-pairs, rising-length, rising-zoom}
+
+-- ---- replaced tokens are words
+
+word_or : (o : Option (List ℕ)) (token : List ℕ) → IfSome o IsWord → IsWord token → IsWord (unwrap_or o token)
+word_or None token h k = k
+word_or (Some text) token h k = h
+
+replaced_words : (r : Replacements) → AreWords r → (tokens : List (List ℕ)) → All IsWord tokens → All IsWord (replaced r tokens)
+replaced_words r words tokens all =
+    All-map IsWord (λ token. unwrap_or (replacement r token) token) tokens (All-weaker IsWord (λ token. IsWord (unwrap_or (replacement r token) token)) (λ token is. word_or (replacement r token) token (All-lookup IsWord (bytes_eq token) r (All-weaker (λ e. IsWord e.0 × IsWord e.1) (λ e. IsWord e.1) (λ e is. is.1) r words)) is) tokens all)
+
+-- ---- a part is a text of a phrase
+
+-- 1 to 20 words
+abbrev AreSomeWords : List (List ℕ) → Type 0
+AreSomeWords tokens = (0 < length tokens) × (length tokens ≤ 20) × All IsWord tokens
+
+some_words : (tokens : List (List ℕ)) → All IsWord tokens → are_some_tokens tokens ≡ true → AreSomeWords tokens
+some_words tokens words some =
+    let both = and_parts _ _ some in
+    (leb-true 1 _ both.0, leb-true _ 20 both.1, words)
+
+kept_words : (toks : List (List (List ℕ))) → All (λ tokens. All IsWord tokens) toks → All AreSomeWords (filter are_some_tokens toks)
+kept_words [] all = All-nil AreSomeWords
+kept_words (tokens ∷ toks) all =
+    let rest = kept_words toks (All-tail (λ tokens. All IsWord tokens) tokens toks all) in
+    elim (are_some_tokens tokens) as (λ b. are_some_tokens tokens ≡ b → All AreSomeWords (cond b (tokens ∷ filter are_some_tokens toks) (filter are_some_tokens toks))) [
+      | true ↦ λ e. All-cons AreSomeWords tokens _ (some_words tokens (All-head (λ tokens. All IsWord tokens) tokens toks all) e) rest
+      | false ↦ λ e. rest
+    ] refl
+
+-- the text and the relevance are those of a phrase
+abbrev pub IsPhrase : Phrase → Type 0
+IsPhrase p = IsPhraseText p.text × IsRelevance p.relev
+
+-- a part with its relevance as a phrase
+abbrev phrase_of : List (List ℕ) × ℕ → Phrase
+phrase_of part = record { text = joined part.0; set = record { bits = all_languages }; relev = part.1 }
+
+part_is_phrase : (tokens : List (List ℕ)) (relev : ℕ) → AreSomeWords tokens → IsRelevance relev → IsPhrase (phrase_of (tokens, relev))
+part_is_phrase tokens relev some is = ((tokens, refl, some.0, some.1, some.2), is)
+
+ranked_phrases : (toks : List (List (List ℕ))) → All AreSomeWords toks → All IsPhrase (map phrase_of (ranked 100 toks))
+ranked_phrases [] all = All-nil IsPhrase
+ranked_phrases (first ∷ more) all =
+    All-cons IsPhrase (phrase_of (first, 100)) (map phrase_of (map (λ tokens. (tokens, 80)) more)) (part_is_phrase first 100 (All-head AreSomeWords first more all) (inr (inr (inr refl))))
+    (All-map IsPhrase phrase_of (map (λ tokens. (tokens, 80)) more) (All-map (λ part. IsPhrase (phrase_of part)) (λ tokens. (tokens, 80)) more (All-weaker AreSomeWords (λ tokens. IsPhrase (phrase_of (tokens, 80))) (λ tokens some. part_is_phrase tokens 80 some (inr (inr (inl refl)))) more (All-tail AreSomeWords first more all))))
+
+-- ---- distinct phrases
+
+distinct_all : (P : Phrase → Type 0) (ps : List Phrase) → All P ps → All P (distinct ps)
+distinct_all P [] all = all
+distinct_all P (p ∷ ps) all = All-cons P p (filter (λ q. not (same_phrase p q)) (distinct ps)) (All-head P p ps all) (All-filter (λ q. not (same_phrase p q)) P (distinct ps) (distinct_all P ps (All-tail P p ps all)))
+
+other : (p q : Phrase) → not (same_phrase p q) ≡ true → p ≢ q
+other p q differs is = let bad : false ≡ true = sym (not-true _ differs) ∙ (ap (same_phrase p) (sym is) ∙ same_itself p) in cc
+
+distinct_pairs : (ps : List Phrase) → AllPairs (λ p q. p ≢ q) (distinct ps)
+distinct_pairs [] = λ i j d l m. absurd (omega (arith, m))
+distinct_pairs (p ∷ ps) =
+    AllPairs-cons (λ p q. p ≢ q) p (filter (λ q. not (same_phrase p q)) (distinct ps))
+    (All-weaker (λ q. not (same_phrase p q) ≡ true) (λ q. p ≢ q) (other p) (filter (λ q. not (same_phrase p q)) (distinct ps)) (filter_passes (λ q. not (same_phrase p q)) (distinct ps)))
+    (AllPairs-filter (λ p q. p ≢ q) (λ q. not (same_phrase p q)) (distinct ps) (distinct_pairs ps))
+
+-- ---- the phrases of a text
+
+phrases_are : (r : Replacements) (text : List ℕ) → AreWords r → All IsPhrase (distinct (phrases_of r 100 text all_languages))
+phrases_are r text words =
+    distinct_all IsPhrase (phrases_of r 100 text all_languages) (ranked_phrases _ (kept_words (map (λ piece. replaced r (tokens_of piece)) (pieces text)) (All-map (λ tokens. All IsWord tokens) (λ piece. replaced r (tokens_of piece)) (pieces text) (λ i d within. replaced_words r words (tokens_of _) (tokens_are_words _)))))
+
+-- the parts make a feature
+pub is_feature : (id score zoom : ℕ) (r : Replacements) (text : List ℕ) (ts : List TileView) → id < 67108864 → score < 16 → AreWords r → list_all (λ t. t.z == zoom) ts ≡ true → 0 < length ts → length ts ≤ 4096
+    → IsFeature (record { id = id; score = score; phrases = distinct (phrases_of r 100 text all_languages); tiles = rising ts })
+is_feature id score zoom r text ts low level words all some few =
+    let size = rising-length ts in
+    let phrases = phrases_are r text words in
+    record {
+      id = low;
+      score = level;
+      texts = All-weaker IsPhrase (λ p. IsPhraseText p.text) (λ p is. is.0) (distinct (phrases_of r 100 text all_languages)) phrases;
+      relevances = All-weaker IsPhrase (λ p. IsRelevance p.relev) (λ p is. is.1) (distinct (phrases_of r 100 text all_languages)) phrases;
+      distinct = distinct_pairs (phrases_of r 100 text all_languages);
+      some = omega (arith, size, some);
+      few = omega (arith, size, few);
+      rising = rising-pairs ts;
+      one_zoom = rising-zoom zoom ts all;
+    }
