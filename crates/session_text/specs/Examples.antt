@@ -1,8 +1,8 @@
 -- Sessions that serve as examples.
-use Rattle.std.specs.Prelude.{ℕ, List, [], ◌∷◌, codes}
-use Rattle.feature_reader.specs.Feature.{all_languages}
+use Rattle.std.specs.Prelude.{ℕ, List, [], ◌∷◌, codes, None}
+use Rattle.geo_layer.specs.Layer.{LayerView}
+use Rattle.feature_reader.specs.Languages.{all_languages}
 use Rattle.feature_reader.specs.FeatureView.{FeatureView}
-use Rattle.feature_reader.specs.Layer.{LayerView}
 use Rattle.session_text.specs.declared.body.BodyLine.{BodyLine}
 use Rattle.session_text.specs.declared.body.BodyLine.TheVariants.{Put, Publish, Ask}
 
@@ -12,7 +12,7 @@ city = codes "carmen 1\nlayer {\"name\":\"place\",\"zoom\":6}\nput 0 {\"id\":7,\
 
 -- its layer
 abbrev pub place : LayerView
-place = record { name = codes "place"; zoom = 6 }
+place = record { name = codes "place"; zoom = 6; stack = None; scoremax = 15; tokens = [] }
 
 -- the city
 abbrev pub new_york : FeatureView

@@ -1,6 +1,6 @@
-pub mod QueryView
-pub mod Query
+pub mod FirstSession
+pub mod Lines
+pub mod Session
 pub mod Reply
 pub mod Status
-pub mod FirstSession
 pub mod Examples

@@ -5,10 +5,10 @@ use Rattle.geo_base.specs.declared.link.Link.{Link}
 use Rattle.geo_base.specs.Order.{target_score}
 use Rattle.feature_reader.specs.declared.table.Taken.{Taken}
 use Rattle.feature_reader.specs.declared.table.Taken.TheVariants.{New, Changed}
-use Rattle.session_text.specs.declared.query.QueryFault.{QueryFault}
-use Rattle.session_text.specs.declared.query.QueryFault.TheVariants.{WrongOption, Long, Empty, Tokens}
-use Rattle.session_text.specs.declared.reply.Reply.{Reply}
-use Rattle.session_text.specs.declared.reply.Reply.TheVariants.{Found, Unreadable, Memory}
+use Rattle.geo_query.specs.declared.query.QueryFault.{QueryFault}
+use Rattle.geo_query.specs.declared.query.QueryFault.TheVariants.{WrongOption, Box, Long, Empty, Tokens}
+use Rattle.geo_query.specs.declared.reply.Reply.{Reply}
+use Rattle.geo_query.specs.declared.reply.Reply.TheVariants.{Found, Unreadable, Grids, Memory}
 
 -- `@Z/X/Y`
 abbrev pub tile_text : TileView → List ℕ
@@ -28,6 +28,7 @@ context_text tokens links =
 -- the number and the name of a fault
 abbrev pub fault_text : QueryFault → List ℕ
 fault_text WrongOption = codes "1 Option"
+fault_text Box = codes "2 Box"
 fault_text Long = codes "3 Long"
 fault_text Empty = codes "4 Empty"
 fault_text Tokens = codes "5 Tokens"
@@ -37,6 +38,7 @@ abbrev pub answer_text : Reply → List ℕ
 answer_text (Found generation answer) =
     codes "gen " ++ decimal generation ++ codes " found " ++ decimal (length answer.contexts) ++ codes "\n" ++ flat_map (context_text answer.tokens) answer.contexts
 answer_text (Unreadable fault) = codes "unreadable " ++ fault_text fault ++ codes "\n"
+answer_text (Grids generation total limit) = codes "gen " ++ decimal generation ++ codes " grids " ++ decimal total ++ codes " " ++ decimal limit ++ codes "\n"
 answer_text Memory = codes "memory\n"
 
 -- the text of an ask: its lane, its place among the lane's asks, and the reply

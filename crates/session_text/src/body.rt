@@ -4,8 +4,8 @@ ghost use Rattle.std.specs.Prelude.{◌≡◌, List, [], ◌∷◌, ◌++◌, �
 ghost use Rattle.session_text.specs.declared.body.BodyLine.{BodyLine};
 
 use feature_reader::feature::Feature;
-use feature_reader::text::Text;
 use geo_base::refusal::Memory;
+use geo_text::text::Text;
 use std::alloc::Global;
 use std::marker::Model;
 
@@ -14,6 +14,12 @@ use std::marker::Model;
 pub enum BodyLine {
     /// Puts a feature into the layer of this number, counted from 0.
     Put { layer: u8, feature: Feature },
+    /// Removes the feature of this layer and id, which is below 2^26.
+    Drop { layer: u8, id: u32 },
+    /// Puts the features of the feed of this number, counted from 0, into a layer.
+    Load { feed: u32, layer: u8 },
+    /// Sets the grid limit of later publications, 1 to 8,388,608.
+    Limit { n: u64 },
     /// Publishes the next generation.
     Publish,
     /// Asks a query on a lane, 0 to 7.

@@ -1,23 +1,22 @@
 //! Reads a whole session.
 
-ghost use Rattle.std.specs.Prelude.{◌≡◌, count_by, Some, None, Err, IfOk};
-ghost use Rattle.geo_base.specs.declared.refusal.Refused.TheVariants as refused;
+ghost use Rattle.std.specs.Prelude.{◌≡◌, count_by, IfOk};
 ghost use Rattle.serde_json.specs.View.{view};
 ghost use Rattle.session_text.specs.FirstSession.{parts, plain_feature, put_of, ask_of, line_of, are_few, body_of, session_of_lines, session_of, is_put, is_publish, is_ask};
-ghost use Rattle.session_text.specs.declared.status.Why.TheVariants.{NotYet};
 
 use crate::body::{BodyLine, Round};
-use crate::bytes::{ascii, cut, without_feed};
+use crate::bytes::without_feed;
 use crate::layer_line::read_layer;
-use crate::query::read_query;
-use crate::status::Why;
 use feature_reader::feature::Feature;
-use feature_reader::json::value_of;
-use feature_reader::layer::Layer;
 use feature_reader::plain::is_plain;
 use feature_reader::read_feature::feature_of_value;
-use feature_reader::text::Text;
 use geo_base::refusal::{Memory, Refused};
+use geo_layer::json::value_of;
+use geo_layer::langs::Langs;
+use geo_layer::layer::Layer;
+use geo_query::read_query::read_query;
+use geo_text::cut::{ascii, cut, from};
+use geo_text::text::Text;
 use serde_json::Value;
 use std::alloc::Global;
 
@@ -36,31 +35,27 @@ const MOST_ASKS: usize = 4096;
 /// The layer and the body of the session that these bytes are: fewer than 1,048,576 bytes, whose
 /// first line is `carmen 1`, whose second line gives the layer, whose last is `end`, and of which
 /// each other line puts a plain feature into layer 0, publishes, or asks a readable query on lane
-/// 0; at most 16 puts, one publication and 4,096 asks. Any other bytes are the fault `NotYet`.
+/// 0; at most 16 puts, one publication and 4,096 asks. None where the bytes are another thing.
 ///
 /// Memory is asked for by the layer, the features and the lines, and may be refused in place of
 /// any answer.
-pub fn read_first(alloc: Global, bytes: &[u8]) -> Result<(Layer, Round), Refused<Why>>
-    ensures ok { IfOk result (λ r. session_of bytes.now ≡ Some (r.0, r.1)) }
-    ensures fault { result ≡ Err (refused.Fault NotYet) → session_of bytes.now ≡ None }
+pub fn read_first(alloc: Global, bytes: &[u8]) -> Result<Option<(Layer, Round)>, Memory>
+    ensures { IfOk result (λ o. o ≡ session_of bytes.now) }
 {
     if bytes.len() >= BYTE_LIMIT {
-        return Err(Refused::Fault(Why::NotYet));
+        return Ok(None);
     }
-    match read_lines(alloc, without_feed(bytes))? {
-        Some(session) => Ok(session),
-        None => Err(Refused::Fault(Why::NotYet)),
-    }
+    read_lines(alloc, without_feed(bytes))
 }
 
 /// The layer and the body of these lines.
 fn read_lines(alloc: Global, bytes: &[u8]) -> Result<Option<(Layer, Round)>, Memory>
     ensures { IfOk result (λ o. o ≡ session_of_lines (parts bytes.now)) }
 {
-    let Some((title, rest)) = cut(bytes) else {
+    let Some((title, rest)) = cut(bytes, b'\n') else {
         return Ok(None);
     };
-    let Some((second, body)) = cut(rest) else {
+    let Some((second, body)) = cut(rest, b'\n') else {
         return Ok(None);
     };
     if title != b"carmen 1".as_slice() {
@@ -81,11 +76,11 @@ fn read_lines(alloc: Global, bytes: &[u8]) -> Result<Option<(Layer, Round)>, Mem
 
 /// The body of these lines, of which the last is `end`.
 fn read_body(alloc: Global, layer: &Layer, bytes: &[u8]) -> Result<Option<Round>, Memory>
-    ensures { IfOk result (λ o. o ≡ body_of layer.now.zoom (parts bytes.now)) }
+    ensures { IfOk result (λ o. o ≡ body_of layer.now (parts bytes.now)) }
 {
     let mut round = Round::new(alloc);
     let mut rest = bytes;
-    while let Some((line, after)) = cut(rest) {
+    while let Some((line, after)) = cut(rest, b'\n') {
         let Some(read) = read_line(alloc, layer, line)? else {
             return Ok(None);
         };
@@ -156,7 +151,7 @@ fn is_ask(line: &BodyLine) -> bool
 
 /// A line of the body: a publication, an ask or a put.
 fn read_line(alloc: Global, layer: &Layer, line: &[u8]) -> Result<Option<BodyLine>, Memory>
-    ensures { IfOk result (λ o. o ≡ line_of layer.now.zoom line.now) }
+    ensures { IfOk result (λ o. o ≡ line_of layer.now line.now) }
 {
     if line == b"publish".as_slice() {
         return Ok(Some(BodyLine::Publish));
@@ -171,10 +166,10 @@ fn read_line(alloc: Global, layer: &Layer, line: &[u8]) -> Result<Option<BodyLin
 fn read_ask(alloc: Global, line: &[u8]) -> Result<Option<BodyLine>, Memory>
     ensures { IfOk result (λ o. o ≡ ask_of line.now) }
 {
-    let Some(rest) = line.strip_prefix(b"ask 0 ") else {
+    if line.strip_prefix(b"ask 0 auto=0 |").is_none() {
         return Ok(None);
-    };
-    let Some(text) = ascii(rest) else {
+    }
+    let Some(text) = ascii(from(line, 6)) else {
         return Ok(None);
     };
     match read_query(alloc, text) {
@@ -189,7 +184,7 @@ fn read_ask(alloc: Global, line: &[u8]) -> Result<Option<BodyLine>, Memory>
 
 /// A put of a plain feature into layer 0.
 fn read_put(alloc: Global, layer: &Layer, line: &[u8]) -> Result<Option<BodyLine>, Memory>
-    ensures { IfOk result (λ o. o ≡ put_of layer.now.zoom line.now) }
+    ensures { IfOk result (λ o. o ≡ put_of layer.now line.now) }
 {
     let Some(json) = line.strip_prefix(b"put 0 ") else {
         return Ok(None);
@@ -208,12 +203,12 @@ fn read_put(alloc: Global, layer: &Layer, line: &[u8]) -> Result<Option<BodyLine
 
 /// The feature of a layer that a value stands for, where the value is plain.
 fn read_plain(alloc: Global, layer: &Layer, value: &Value) -> Result<Option<Feature>, Memory>
-    ensures { IfOk result (λ o. o ≡ plain_feature layer.now.zoom (view value.now)) }
+    ensures { IfOk result (λ o. o ≡ plain_feature layer.now (view value.now)) }
 {
     if !is_plain(value) {
         return Ok(None);
     }
-    match feature_of_value(alloc, layer, value) {
+    match feature_of_value(alloc, layer, &Langs::new(alloc), value) {
         Ok(feature) => Ok(Some(feature)),
         Err(Refused::Fault(_)) => Ok(None),
         Err(Refused::Memory) => Err(Memory),
@@ -229,7 +224,7 @@ mod tests {
         let session =
             "carmen 1\nlayer {\"name\":\"place\",\"zoom\":6}\nput 0 {\"id\":7,\"properties\":{\"carmen:text\":\"New York\",\"carmen:zxy\":[\"6/32/32\",\"6/33/32\"]}}\npublish\nask 0 auto=0 | new york\nend";
         match read_first(rt.alloc(), session.as_bytes()) {
-            Ok((layer, round)) => {
+            Ok(Some((layer, round))) => {
                 assert_eq!(rt; layer.name(), "place");
                 assert_eq!(rt; layer.zoom(), 6);
                 assert_eq!(rt; round.len(), 3);
@@ -245,7 +240,7 @@ mod tests {
                     _ => panic!(rt; "the lines are others"),
                 }
             }
-            Err(_) => panic!(rt; "the session is refused"),
+            _ => panic!(rt; "the session is refused"),
         }
     }
 
@@ -253,8 +248,8 @@ mod tests {
     fn a_session_with_a_join_is_refused(rt: HostRuntime) {
         let session = "carmen 1\nlayer {\"name\":\"place\",\"zoom\":6}\npublish\njoin\nend\n";
         match read_first(rt.alloc(), session.as_bytes()) {
-            Err(Refused::Fault(why)) => assert_eq!(rt; why, Why::NotYet),
-            _ => panic!(rt; "no fault"),
+            Ok(None) => {}
+            _ => panic!(rt; "the session is accepted"),
         }
     }
 }

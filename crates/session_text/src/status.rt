@@ -3,16 +3,13 @@
 ghost use Rattle.std.specs.Prelude.{◌≡◌};
 ghost use Rattle.session_text.specs.Status.{number_of, status_text, why_text};
 ghost use Rattle.session_text.specs.declared.status.Status.TheVariants.{BadLine};
+ghost use Rattle.session_text.specs.declared.why.Why.TheVariants.{Layer, Feature};
 
+use crate::why::Why;
 use arrayvec::ArrayString;
+use feature_reader::feature::FeatureFault;
+use geo_layer::layer::LayerFault;
 use itoa::Buffer;
-
-/// Why a line is refused.
-#[derive(Clone, Copy, Debug, PartialEq, Eq)]
-pub enum Why {
-    /// The session isn't one that this program accepts.
-    NotYet,
-}
 
 /// How a session ends.
 #[derive(Clone, Copy, Debug, PartialEq, Eq)]
@@ -77,12 +74,54 @@ fn bad_line(line: u64, why: Why) -> ArrayString<128>
     text
 }
 
-/// The number and the name of a fault.
+/// The number and the name of a fault, and of the fault in it.
 fn name_of(why: Why) -> &'static str
     ensures { result.now ≡ why_text why }
 {
     match why {
+        Why::Long => "1 Long",
+        Why::Utf8 => "2 Utf8",
+        Why::Head => "3 Head",
+        Why::Word => "4 Word",
+        Why::Form => "5 Form",
+        Why::Lang => "6 Lang",
+        Why::Layer(fault) => layer_name_of(fault),
+        Why::Number => "8 Number",
+        Why::Feed => "9 Feed",
+        Why::Feature(fault) => feature_name_of(fault),
+        Why::Asks => "11 Asks",
         Why::NotYet => "12 NotYet",
+    }
+}
+
+/// The number and the name of the fault of a layer's line.
+fn layer_name_of(fault: LayerFault) -> &'static str
+    ensures { result.now ≡ why_text (Layer fault) }
+{
+    match fault {
+        LayerFault::Json => "7 Layer 1 Json",
+        LayerFault::Name => "7 Layer 2 Name",
+        LayerFault::Zoom => "7 Layer 3 Zoom",
+        LayerFault::Falling => "7 Layer 4 Falling",
+        LayerFault::Stack => "7 Layer 5 Stack",
+        LayerFault::Tokens => "7 Layer 6 Tokens",
+        LayerFault::TooMany => "7 Layer 7 TooMany",
+        LayerFault::ScoreMax => "7 Layer 8 ScoreMax",
+    }
+}
+
+/// The number and the name of the fault of a put.
+fn feature_name_of(fault: FeatureFault) -> &'static str
+    ensures { result.now ≡ why_text (Feature fault) }
+{
+    match fault {
+        FeatureFault::Json => "10 Feature 1 Json",
+        FeatureFault::Id => "10 Feature 2 Id",
+        FeatureFault::Text => "10 Feature 3 Text",
+        FeatureFault::Zxy => "10 Feature 4 Zxy",
+        FeatureFault::Zoom => "10 Feature 5 Zoom",
+        FeatureFault::Score => "10 Feature 6 Score",
+        FeatureFault::Relev => "10 Feature 7 Relev",
     }
 }
 

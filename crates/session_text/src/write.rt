@@ -4,15 +4,15 @@ ghost use Rattle.std.specs.Prelude.{◌≡◌, ◌≤◌, ◌*◌, ◌++◌, len
 ghost use Rattle.std.specs.Io.{StartsWith};
 ghost use Rattle.geo_base.specs.Order.{target_score};
 ghost use Rattle.session_text.specs.Reply.{tile_text, link_text, context_text, fault_text, answer_text, reply_text, taken_word, put_text, published_text};
-ghost use Rattle.session_text.specs.declared.reply.Reply.TheVariants.{Unreadable};
+ghost use Rattle.geo_query.specs.declared.reply.Reply.TheVariants.{Unreadable, Grids};
 
-use crate::query::QueryFault;
-use crate::reply::Reply;
 use feature_reader::table::Taken;
 use geo_base::answer::Contexts;
 use geo_base::link::Link;
 use geo_base::refusal::Memory;
 use geo_base::tile::Tile;
+use geo_query::query::QueryFault;
+use geo_query::reply::Reply;
 use itoa::Buffer;
 
 /// Appends some bytes.
@@ -134,6 +134,7 @@ fn name_of(fault: QueryFault) -> &'static [u8]
 {
     match fault {
         QueryFault::WrongOption => b"1 Option",
+        QueryFault::Box => b"2 Box",
         QueryFault::Long => b"3 Long",
         QueryFault::Empty => b"4 Empty",
         QueryFault::Tokens => b"5 Tokens",
@@ -146,6 +147,18 @@ fn write_unreadable(out: &mut Vec<u8>, fault: QueryFault) -> Result<(), Memory>
     ensures err { OnErr result (StartsWith out.new.items out.old.items) }
 {
     push_both(out, b"unreadable ", name_of(fault))?;
+    push(out, b"\n")?;
+    Ok(())
+}
+
+/// Appends the text of a query that matches too many grid entries: how many, and the limit.
+fn write_grids(out: &mut Vec<u8>, generation: u32, total: u64, limit: u64) -> Result<(), Memory>
+    ensures ok { OnOk result (out.new.items ≡ out.old.items ++ answer_text (Grids generation total limit)) }
+    ensures err { OnErr result (StartsWith out.new.items out.old.items) }
+{
+    push_number(out, b"gen ", u64::from(generation))?;
+    push_number(out, b" grids ", total)?;
+    push_number(out, b" ", limit)?;
     push(out, b"\n")?;
     Ok(())
 }
@@ -163,6 +176,11 @@ fn write_answer(out: &mut Vec<u8>, r: &Reply) -> Result<(), Memory>
             write_contexts(out, answer.tokens, &answer.contexts)?;
         }
         Reply::Unreadable(fault) => write_unreadable(out, *fault)?,
+        Reply::Grids {
+            generation,
+            total,
+            limit,
+        } => write_grids(out, *generation, *total, *limit)?,
         Reply::Memory => push(out, b"memory\n")?,
     }
     Ok(())

@@ -1,5 +1,5 @@
 use Rattle.std.proofs.Common.{◌≡◌, ◌∙◌, true, false, sym, rules}
-use Rattle.feature_reader.specs.Layer.{is_name}
+use Rattle.geo_layer.specs.Layer.{is_name}
 use Rattle.session_text.proofs.Ascii.{name-ascii}
 use Rattle.session_text.proofs.layer_line.read_layer.Goals as goal
 

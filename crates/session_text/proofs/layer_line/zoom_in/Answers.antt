@@ -1,7 +1,7 @@
 use Rattle.std.proofs.Common.{◌∙◌, ◌+◌, ◌==◌, ap, drop, length}
 use Rattle.std.specs.Prelude.{unwrap_or}
 use Rattle.std.specs.List.{before_first}
-use Rattle.feature_reader.specs.Numbers.{number_of}
+use Rattle.geo_text.specs.Numbers.{number_of}
 use Rattle.session_text.proofs.layer_line.zoom_in.Goals as goal
 
 pub returns : goal.returns

@@ -1,0 +1,167 @@
+//! Reads the lines of a session's body.
+
+ghost use Rattle.std.specs.Prelude.{◌≡◌, List, nat_eq, codes, count_by, Ok, Err, IfOk};
+ghost use Rattle.std.specs.List.{list_any, starts_with};
+ghost use Rattle.geo_text.specs.Words.{words_of};
+ghost use Rattle.geo_base.specs.declared.refusal.Refused.TheVariants as refused;
+ghost use Rattle.geo_query.specs.Query.{asks_language};
+ghost use Rattle.session_text.specs.Session.{put_line, drop_line, load_line, limit_line, ask_line, bare_line, is_asking};
+ghost use Rattle.session_text.specs.declared.body.BodyLine.{BodyLine};
+ghost use Rattle.session_text.specs.declared.why.Why.{Why};
+
+use crate::body::BodyLine;
+use crate::fields::{is_bare, next_field, one_number, two_numbers};
+use crate::item::Item;
+use crate::why::Why;
+use feature_reader::feature::FeatureFault;
+use feature_reader::read_feature::feature_of_value;
+use feature_reader::simple::is_simple;
+use geo_base::refusal::Refused;
+use geo_layer::head::Head;
+use geo_layer::json::value_of;
+use geo_text::cut::{after_word, ascii, before, first_word, next_word};
+use geo_text::number::number;
+use geo_text::text::Text;
+use std::alloc::Global;
+
+/// The most asks of a round.
+const MOST_ASKS: u64 = 4096;
+
+/// `put L JSON`.
+pub fn read_put(alloc: Global, head: &Head, text: &[u8]) -> Result<Item, Refused<Why>>
+    ensures ok { IfOk result (λ item. put_line head.now text.now ≡ Ok item) }
+    ensures fault { (why : Why) → result ≡ Err (refused.Fault why) → put_line head.now text.now ≡ Err why }
+{
+    let fields = next_field(text);
+    let Some(place) = number(first_word(fields)) else {
+        return Err(Refused::Fault(Why::Form));
+    };
+    if ascii(text).is_none() {
+        return Err(Refused::Fault(Why::NotYet));
+    }
+    let value = value_of(alloc, next_field(fields))?;
+    if let Some(value) = &value {
+        if !is_simple(value) {
+            return Err(Refused::Fault(Why::NotYet));
+        }
+    }
+    if place >= head.layers.len() as u64 {
+        return Err(Refused::Fault(Why::Number));
+    }
+    let Some(value) = value else {
+        return Err(Refused::Fault(Why::Feature(FeatureFault::Json)));
+    };
+    match feature_of_value(alloc, head.layers.at(place as usize), &head.langs, &value) {
+        Ok(feature) => Ok(Item::Body(BodyLine::Put {
+            layer: place as u8,
+            feature,
+        })),
+        Err(Refused::Fault(fault)) => Err(Refused::Fault(Why::Feature(fault))),
+        Err(Refused::Memory) => Err(Refused::Memory),
+    }
+}
+
+/// `drop L ID`.
+pub fn read_drop(head: &Head, text: &[u8]) -> Result<Item, Why>
+    ensures { result ≡ drop_line head.now text.now }
+{
+    let Some((layer, id)) = two_numbers(text) else {
+        return Err(Why::Form);
+    };
+    if ascii(text).is_none() {
+        return Err(Why::NotYet);
+    }
+    if layer >= head.layers.len() as u64 {
+        return Err(Why::Number);
+    }
+    if id >= 67_108_864 {
+        return Err(Why::Number);
+    }
+    Ok(Item::Body(BodyLine::Drop {
+        layer: layer as u8,
+        id: id as u32,
+    }))
+}
+
+/// `limit N`.
+pub fn read_limit(text: &[u8]) -> Result<Item, Why>
+    ensures { result ≡ limit_line text.now }
+{
+    let Some(n) = one_number(text) else {
+        return Err(Why::Form);
+    };
+    if ascii(text).is_none() {
+        return Err(Why::NotYet);
+    }
+    if n < 1 {
+        return Err(Why::Number);
+    }
+    if n > 8_388_608 {
+        return Err(Why::Number);
+    }
+    Ok(Item::Body(BodyLine::Limit { n }))
+}
+
+/// Whether one of these words asks for a language.
+fn has_language(words: &[u8]) -> bool
+    ensures { result ≡ list_any (λ word. starts_with nat_eq word (codes "lang=")) (words_of words.now) }
+{
+    let mut rest = words;
+    while let Some((word, more)) = next_word(rest) {
+        if word.starts_with(b"lang=") {
+            return true;
+        }
+        rest = more;
+    }
+    false
+}
+
+/// Whether one of a query's options asks for a language.
+fn asks_language(line: &[u8]) -> bool
+    ensures { result ≡ asks_language line.now }
+{
+    line.contains(&b'|') && has_language(before(line, b'|'))
+}
+
+/// `ask LANE QUERY`, in a round that has so many asks.
+pub fn read_ask(alloc: Global, asks: u64, text: &[u8]) -> Result<Item, Refused<Why>>
+    ensures ok { (round : List BodyLine) → count_by is_asking round ≡ asks → IfOk result (λ item. ask_line round text.now ≡ Ok item) }
+    ensures fault { (round : List BodyLine) → count_by is_asking round ≡ asks → (why : Why) → result ≡ Err (refused.Fault why) → ask_line round text.now ≡ Err why }
+{
+    let fields = next_field(text);
+    let Some(lane) = number(first_word(fields)) else {
+        return Err(Refused::Fault(Why::Form));
+    };
+    if ascii(text).is_none() {
+        return Err(Refused::Fault(Why::NotYet));
+    }
+    let Some(query) = ascii(after_word(fields)) else {
+        return Err(Refused::Fault(Why::NotYet));
+    };
+    if asks_language(query.as_bytes()) {
+        return Err(Refused::Fault(Why::NotYet));
+    }
+    if lane >= 8 {
+        return Err(Refused::Fault(Why::Number));
+    }
+    if asks >= MOST_ASKS {
+        return Err(Refused::Fault(Why::Asks));
+    }
+    Ok(Item::Body(BodyLine::Ask {
+        lane: lane as u8,
+        text: Text::of(alloc, query)?,
+    }))
+}
+
+/// A line of one word, which says this.
+pub fn read_bare(item: Item, text: &[u8]) -> Result<Item, Why>
+    ensures { result ≡ bare_line item text.now }
+{
+    if !is_bare(text) {
+        return Err(Why::Form);
+    }
+    if ascii(text).is_none() {
+        return Err(Why::NotYet);
+    }
+    Ok(item)
+}

@@ -1,0 +1,80 @@
+//! The fields of a line.
+
+ghost use Rattle.std.specs.Prelude.{◌≡◌, ◌==◌, length, Some, None, option_map, ok_or, nat_lt};
+ghost use Rattle.std.specs.List.{list_all};
+ghost use Rattle.std.specs.Str.{is_utf8};
+ghost use Rattle.geo_text.specs.Words.{words_of};
+ghost use Rattle.session_text.specs.Lines.{line_text, is_skipped, next_field};
+ghost use Rattle.session_text.specs.Session.{one_number, two_numbers};
+ghost use Rattle.session_text.specs.declared.why.Why.TheVariants as why;
+
+use geo_text::cut::{after_word, next_word, skip_spaces};
+use geo_text::number::number;
+
+/// Whether the bytes are UTF-8.
+pub fn is_utf8(bytes: &[u8]) -> bool
+    ensures { result ≡ is_utf8 bytes.now }
+{
+    std::str::from_utf8(bytes).is_ok()
+}
+
+/// The line without one carriage return at its end.
+pub fn line_text(line: &[u8]) -> &[u8]
+    ensures { result.now ≡ line_text line.now }
+{
+    line.strip_suffix(b"\r").unwrap_or(line)
+}
+
+/// Whether each byte is a space.
+pub fn are_spaces(text: &[u8]) -> bool
+    ensures { result ≡ list_all (λ b. b == 32) text.now }
+{
+    text.iter().all(|b| *b == b' ')
+}
+
+/// Whether the line is skipped: it is empty, of spaces alone, or begins with `#`.
+pub fn is_skipped(text: &[u8]) -> bool
+    ensures { result ≡ is_skipped text.now }
+{
+    are_spaces(text) || text.first() == Some(&b'#')
+}
+
+/// What follows the first word and its spaces.
+pub fn next_field(text: &[u8]) -> &[u8]
+    ensures { result.now ≡ next_field text.now }
+{
+    skip_spaces(after_word(text))
+}
+
+/// The one number that follows the word of a line; None where another thing does.
+pub fn one_number(text: &[u8]) -> Option<u64>
+    ensures { ok_or result why.Form ≡ one_number text.now }
+{
+    let (first, rest) = next_word(after_word(text))?;
+    if next_word(rest).is_some() {
+        return None;
+    }
+    number(first)
+}
+
+/// The two numbers that follow the word of a line; None where another thing does.
+pub fn two_numbers(text: &[u8]) -> Option<(u64, u64)>
+    ensures { ok_or result why.Form ≡ two_numbers text.now }
+{
+    let (first, rest) = next_word(after_word(text))?;
+    let (second, rest) = next_word(rest)?;
+    if next_word(rest).is_some() {
+        return None;
+    }
+    Some((number(first)?, number(second)?))
+}
+
+/// Whether the line has at most one word.
+pub fn is_bare(text: &[u8]) -> bool
+    ensures { result ≡ nat_lt (length (words_of text.now)) 2 }
+{
+    match next_word(text) {
+        Some((_, rest)) => next_word(rest).is_none(),
+        None => true,
+    }
+}
