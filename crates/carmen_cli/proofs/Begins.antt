@@ -5,8 +5,8 @@ use Rattle.std.proofs.Math.Seq.{take-append_seam, take-length, drop-append_seam}
 use Rattle.std.specs.Cmp.Lexicographic.{pointwise, bytes_decides}
 use Rattle.std.proofs.lemmas.Bool.{cases_Bool}
 use Rattle.std.proofs.lemmas.Slice.Eq.{bytes_eq-Decides}
-use Rattle.feature_reader.specs.Tokens.{joined}
-use Rattle.session_text.specs.QueryView.{QueryView}
+use Rattle.geo_text.specs.Tokens.{joined}
+use Rattle.geo_query.specs.QueryView.{QueryView}
 use Rattle.carmen_cli.specs.Match.{run_text, begins_with, matches}
 
 and_true : (b : Bool) → (b && true) ≡ b

@@ -8,7 +8,7 @@ use Rattle.geo_base.proofs.Members.{member_here, member_cases, no_member, member
 use Rattle.feature_reader.specs.declared.phrase.Phrase.{Phrase}
 use Rattle.feature_reader.specs.FeatureView.{FeatureView}
 use Rattle.feature_reader.specs.Table.{Table}
-use Rattle.session_text.specs.QueryView.{QueryView}
+use Rattle.geo_query.specs.QueryView.{QueryView}
 use Rattle.carmen_cli.specs.Match.{matches, runs}
 use Rattle.carmen_cli.specs.Links.{link_of, run_links, phrase_links, feature_links, links, links_on_first_tiles}
 

@@ -25,7 +25,7 @@ use Rattle.geo_base.proofs.Members.{member_here, member_cases, no_member, member
 use Rattle.feature_reader.specs.declared.phrase.Phrase.{Phrase}
 use Rattle.feature_reader.specs.FeatureView.{FeatureView, IsFeature, tile_cmp}
 use Rattle.feature_reader.specs.Table.{Table, IsTable, comes_before}
-use Rattle.session_text.specs.QueryView.{QueryView}
+use Rattle.geo_query.specs.QueryView.{QueryView}
 use Rattle.carmen_cli.specs.Links.{link_of, feature_links, links, links_on_first_tiles, singles, IsOfLayer}
 use Rattle.carmen_cli.proofs.LinkFacts.{IsLinkOf, entry_of_link, member_from_link, first_link_is_link}
 

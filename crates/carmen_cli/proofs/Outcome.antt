@@ -4,15 +4,15 @@ use Rattle.std.proofs.lemmas.List.{take_all, length-append}
 use Rattle.std.proofs.lemmas.Bool.{leb-true, le-leb, ltb-false, le-ltb}
 use Rattle.std.proofs.Math.Seq.{take-append_seam}
 use Rattle.std.specs.Io.KnownBytes.{Consumes, Appends, IsAtEnd}
-use Rattle.feature_reader.specs.Layer.{LayerView}
+use Rattle.geo_layer.specs.Layer.{LayerView}
 use Rattle.feature_reader.specs.Table.{put_answer}
 use Rattle.session_text.specs.Reply.{reply_text, put_text, published_text}
-use Rattle.session_text.specs.declared.reply.Reply.TheVariants as reply
+use Rattle.geo_query.specs.declared.reply.Reply.TheVariants as reply
 use Rattle.session_text.specs.declared.body.BodyLine.{BodyLine}
-use Rattle.session_text.specs.declared.body.BodyLine.TheVariants.{Put, Publish, Ask}
+use Rattle.session_text.specs.declared.body.BodyLine.TheVariants.{Put, Drop, Load, Limit, Publish, Ask}
 use Rattle.session_text.specs.declared.status.Status.{Status}
 use Rattle.session_text.specs.declared.status.Status.TheVariants.{Done, Usage, BadLine, ReadFault, WriteFault, Memory}
-use Rattle.session_text.specs.declared.status.Why.TheVariants.{NotYet}
+use Rattle.session_text.specs.declared.why.Why.TheVariants.{NotYet}
 use Rattle.session_text.specs.FirstSession.{session_of}
 use Rattle.carmen_cli.specs.Plain.{Built, Places, IsLineText, IsText, IsPlainText, after_line, places_after, lines_of_rounds, empty, no_asks}
 use Rattle.carmen_cli.specs.Reading.{Reading, unended, reading, whole_reading}
@@ -22,6 +22,9 @@ use Rattle.carmen_cli.specs.TopCall.{Says, EndsAs, Decides, IsDecided}
 pub some_line_text : (layers : List LayerView) (built : Built) (places : Places) (line : BodyLine) → (text : List ℕ) × IsLineText layers built places line text
 some_line_text layers built places (Put layer f) = (put_text layer f.id (put_answer built.table layer f), refl)
 some_line_text layers built places Publish = (published_text (built.last.number + 1), refl)
+some_line_text layers built places (Drop layer id) = ([], refl)
+some_line_text layers built places (Load feed layer) = ([], refl)
+some_line_text layers built places (Limit n) = ([], refl)
 some_line_text layers built places (Ask lane text) = (reply_text lane (slice_index places lane) reply.Memory, inr refl)
 
 -- so have all lines

@@ -4,11 +4,11 @@ use Rattle.std.specs.Prelude.{◌&&◌, nat_le, count_by, replicate, slice_index
 use Rattle.std.proofs.lemmas.Bool.{and_parts, leb-true}
 use Rattle.std.proofs.lemmas.List.Elements.{All-cons, All-head, All-tail, All-weaker, All-filter, All-set}
 use Rattle.std.proofs.lemmas.List.Sums.{length-filter, count_by-le-length, sum_by-cons}
-use Rattle.feature_reader.specs.Layer.{LayerView}
+use Rattle.geo_layer.specs.Layer.{LayerView}
 use Rattle.feature_reader.specs.FeatureView.{FeatureView}
 use Rattle.feature_reader.specs.Table.{Table, is_at, comes_before, without, inserted, put}
 use Rattle.session_text.specs.declared.body.BodyLine.{BodyLine}
-use Rattle.session_text.specs.declared.body.BodyLine.TheVariants.{Put, Publish, Ask}
+use Rattle.session_text.specs.declared.body.BodyLine.TheVariants.{Put, Drop, Load, Limit, Publish, Ask}
 use Rattle.session_text.specs.FirstSession.{is_put, is_publish, is_ask, are_few}
 use Rattle.carmen_cli.specs.Links.{IsOfLayer}
 use Rattle.carmen_cli.specs.Plain.{Built, Places, IsText, after_line, places_after, empty, no_asks}
@@ -112,6 +112,9 @@ ready_after zoom layers (Ask lane text) left old new out out_after eight is step
       publications = omega (arith, is.publications, number, count_skip is_publish (Ask lane text) left refl);
       asks = subst (All (λ n. n + count_by is_ask left ≤ 4096)) (sym step.places) (asks_after old.asks lane (count_by is_ask left) (omega (arith, first, eight)) (no_more_asks (suc (count_by is_ask left)) old.asks _ (count_hit is_ask (Ask lane text) left refl) is.asks));
     }
+ready_after zoom layers (Drop layer id) left old new out out_after eight is step = absurd (All-head (IsPlainLine zoom) (Drop layer id) left is.lines)
+ready_after zoom layers (Load feed layer) left old new out out_after eight is step = absurd (All-head (IsPlainLine zoom) (Load feed layer) left is.lines)
+ready_after zoom layers (Limit n) left old new out out_after eight is step = absurd (All-head (IsPlainLine zoom) (Limit n) left is.lines)
 
 -- ---- the text so far
 
@@ -143,6 +146,9 @@ ready_at_first zoom lines s table published number asks plain few =
 pub places_length : (places : Places) (line : BodyLine) → length (places_after places line) ≡ length places
 places_length places (Put layer f) = refl
 places_length places Publish = refl
+places_length places (Drop layer id) = refl
+places_length places (Load feed layer) = refl
+places_length places (Limit n) = refl
 places_length places (Ask lane text) = length-set places lane (slice_index places lane + 1)
 
 pub nothing_left : (lines : List BodyLine) → length lines ≡ 0 → lines ≡ []

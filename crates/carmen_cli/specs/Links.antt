@@ -5,7 +5,7 @@ use Rattle.geo_base.specs.declared.link.Link.{Link}
 use Rattle.feature_reader.specs.declared.phrase.Phrase.{Phrase}
 use Rattle.feature_reader.specs.FeatureView.{FeatureView}
 use Rattle.feature_reader.specs.Table.{Table}
-use Rattle.session_text.specs.QueryView.{QueryView}
+use Rattle.geo_query.specs.QueryView.{QueryView}
 use Rattle.carmen_cli.specs.Match.{matches, runs}
 
 -- the link of a feature, a phrase of it, a run that matches the phrase, and a tile: its value is the number of tokens, times the relevance, times 100

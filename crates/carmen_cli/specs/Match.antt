@@ -1,7 +1,7 @@
 -- Which runs of a query match a phrase.
 use Rattle.std.specs.Prelude.{ℕ, ◌+◌, ◌-◌, Bool, zero, suc, List, [], ◌∷◌, ◌&&◌, ◌||◌, ◌==◌, length, map, flat_map, take, bytes_eq, slice_range}
-use Rattle.feature_reader.specs.Tokens.{joined}
-use Rattle.session_text.specs.QueryView.{QueryView}
+use Rattle.geo_text.specs.Tokens.{joined}
+use Rattle.geo_query.specs.QueryView.{QueryView}
 
 -- the text of the run of tokens from `from` up to but not `to`
 abbrev pub run_text : QueryView → ℕ → ℕ → List ℕ

@@ -1,11 +1,11 @@
 -- The text that a session may be answered with, line by line.
 use Rattle.std.specs.Prelude.{ℕ, ◌+◌, ◌≡◌, ◌⊎◌, List, [], ◌∷◌, ◌++◌, replicate, slice_index, slice_set}
-use Rattle.feature_reader.specs.Layer.{LayerView}
+use Rattle.geo_layer.specs.Layer.{LayerView}
 use Rattle.feature_reader.specs.Table.{Table, put, put_answer}
 use Rattle.session_text.specs.Reply.{reply_text, put_text, published_text}
-use Rattle.session_text.specs.declared.reply.Reply.TheVariants.{Memory}
+use Rattle.geo_query.specs.declared.reply.Reply.TheVariants.{Memory}
 use Rattle.session_text.specs.declared.body.BodyLine.{BodyLine}
-use Rattle.session_text.specs.declared.body.BodyLine.TheVariants.{Put, Publish, Ask}
+use Rattle.session_text.specs.declared.body.BodyLine.TheVariants.{Put, Drop, Load, Limit, Publish, Ask}
 use Rattle.carmen_cli.specs.Answering.{Published, reply_to}
 
 -- what the builder has: the features, and the generation that was published last
@@ -22,6 +22,9 @@ abbrev pub after_line : Built → BodyLine → Built
 after_line built (Put layer f) = record built { table = put built.table layer f }
 after_line built Publish = record built { last = record { number = built.last.number + 1; table = built.table } }
 after_line built (Ask lane text) = built
+after_line built (Drop layer id) = built
+after_line built (Load feed layer) = built
+after_line built (Limit n) = built
 
 -- how many asks each of the eight lanes has had
 abbrev pub Places : Type 0
@@ -35,12 +38,18 @@ no_asks = replicate 8 0
 abbrev pub places_after : Places → BodyLine → Places
 places_after places (Put layer f) = places
 places_after places Publish = places
+places_after places (Drop layer id) = places
+places_after places (Load feed layer) = places
+places_after places (Limit n) = places
 places_after places (Ask lane text) = slice_set places lane (slice_index places lane + 1)
 
--- the text that a line may be answered with; an ask with its reply, or with want of memory
+-- the text that a line may be answered with; an ask with its reply, or with want of memory; a line that stands in no small session has none
 abbrev pub IsLineText : List LayerView → Built → Places → BodyLine → List ℕ → Type 0
 IsLineText layers built places (Put layer f) out = out ≡ put_text layer f.id (put_answer built.table layer f)
 IsLineText layers built places Publish out = out ≡ published_text (built.last.number + 1)
+IsLineText layers built places (Drop layer id) out = out ≡ []
+IsLineText layers built places (Load feed layer) out = out ≡ []
+IsLineText layers built places (Limit n) out = out ≡ []
 IsLineText layers built places (Ask lane text) out =
     (out ≡ reply_text lane (slice_index places lane) (reply_to layers built.last text)) ⊎ (out ≡ reply_text lane (slice_index places lane) Memory)
 

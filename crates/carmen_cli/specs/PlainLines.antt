@@ -1,8 +1,8 @@
 -- What holds of the lines of an accepted session, and what one of them does to what stands.
 use Rattle.std.specs.Prelude.{◌≡◌, ℕ, ◌+◌, ◌≤◌, List, ◌++◌, length, count_by, All, IsAscii, ⊤}
-use Rattle.feature_reader.specs.Layer.{LayerView}
+use Rattle.geo_layer.specs.Layer.{LayerView}
 use Rattle.session_text.specs.declared.body.BodyLine.{BodyLine}
-use Rattle.session_text.specs.declared.body.BodyLine.TheVariants.{Put, Publish, Ask}
+use Rattle.session_text.specs.declared.body.BodyLine.TheVariants.{Put, Drop, Load, Limit, Publish, Ask}
 use Rattle.session_text.specs.FirstSession.{is_put, is_publish, is_ask}
 use Rattle.carmen_cli.specs.Links.{IsOfLayer}
 use Rattle.carmen_cli.specs.Plain.{Built, IsLineText, after_line, places_after}
@@ -13,6 +13,9 @@ abbrev pub IsPlainLine : ℕ → BodyLine → Type 0
 IsPlainLine zoom (Put layer f) = (layer ≡ 0) × All (λ t. t.z ≡ zoom) f.tiles
 IsPlainLine zoom Publish = ⊤
 IsPlainLine zoom (Ask lane text) = (lane ≡ 0) × IsAscii text
+IsPlainLine zoom (Drop layer id) = ⊥
+IsPlainLine zoom (Load feed layer) = ⊥
+IsPlainLine zoom (Limit n) = ⊥
 
 -- what the builder has
 abbrev pub built_of : Standing → Built

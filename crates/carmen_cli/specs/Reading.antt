@@ -1,9 +1,9 @@
 -- What the bytes of a session give: its layers, its rounds, and how it ends.
 use Rattle.std.specs.Prelude.{ℕ, Bool, List, [], ◌∷◌, ◌||◌, length, nat_le, if◌then◌else◌, Option, Some, None}
-use Rattle.feature_reader.specs.Layer.{LayerView}
+use Rattle.geo_layer.specs.Layer.{LayerView}
 use Rattle.session_text.specs.declared.body.BodyLine.{BodyLine}
-use Rattle.session_text.specs.declared.status.Why.{Why}
-use Rattle.session_text.specs.declared.status.Why.TheVariants.{NotYet}
+use Rattle.session_text.specs.declared.why.Why.{Why}
+use Rattle.session_text.specs.declared.why.Why.TheVariants.{NotYet}
 use Rattle.session_text.specs.FirstSession.{session_of}
 
 -- the bytes are a session up to its `end` line; or this line is refused for this reason, line 0 standing for the whole; or neither is known, since the source wasn't read to its end or the limit

@@ -16,14 +16,14 @@ ghost use Rattle.feature_reader.specs.Table.{IsTable};
 
 use crate::matching::is_match;
 use feature_reader::feature::Feature;
-use feature_reader::layer::Layer;
 use feature_reader::phrase::Phrase;
 use feature_reader::table::FeatureTable;
 use geo_base::answer::Answer;
 use geo_base::context::Context;
 use geo_base::link::Link;
 use geo_base::refusal::Memory;
-use session_text::query::Query;
+use geo_layer::layer::Layer;
+use geo_query::query::Query;
 use std::alloc::Global;
 use top_list::TopList;
 

@@ -1,11 +1,11 @@
 //! Which runs of a query match a phrase.
 
 ghost use Rattle.std.specs.Prelude.{◌≡◌, ◌<◌, ◌≤◌, ◌++◌, ℕ, List, length, MatchOption};
-ghost use Rattle.feature_reader.specs.Tokens.{joined};
+ghost use Rattle.geo_text.specs.Tokens.{joined};
 ghost use Rattle.carmen_cli.specs.Match.{matches};
 
-use feature_reader::text::Text;
-use session_text::query::Query;
+use geo_query::query::Query;
+use geo_text::text::Text;
 
 /// What follows these bytes in a text; None where it doesn't begin with them.
 fn after<'a>(text: &'a [u8], front: &[u8]) -> Option<&'a [u8]>

@@ -1,9 +1,9 @@
 //! Answers the lines of a session in order, and makes their text.
 
 ghost use Rattle.std.specs.Prelude.{◌≡◌, ◌⊎◌, ◌<◌, ◌≤◌, List, [], ◌∷◌, length, true, All, IsAscii, OnOk, IfOk, MatchOption, Some, None};
-ghost use Rattle.feature_reader.specs.Layer.{LayerView};
+ghost use Rattle.geo_layer.specs.Layer.{LayerView};
 ghost use Rattle.session_text.specs.declared.body.BodyLine.{BodyLine};
-ghost use Rattle.session_text.specs.declared.reply.Reply.{Reply};
+ghost use Rattle.geo_query.specs.declared.reply.Reply.{Reply};
 ghost use Rattle.session_text.specs.declared.body.BodyLine.TheVariants.{Put, Publish, Ask};
 ghost use Rattle.session_text.specs.FirstSession.{are_few, session_of};
 ghost use Rattle.carmen_cli.specs.Links.{IsOfLayer};
@@ -13,15 +13,14 @@ ghost use Rattle.carmen_cli.specs.PlainLines.{IsPlainLine, IsReady, IsStep};
 
 use crate::filter::answer_in_layer;
 use feature_reader::feature::Feature;
-use feature_reader::layer::Layer;
 use feature_reader::table::FeatureTable;
-use feature_reader::text::Text;
 use geo_base::refusal::{Memory, Refused};
+use geo_layer::layer::Layer;
+use geo_query::read_query::read_query;
+use geo_query::reply::Reply;
+use geo_text::text::Text;
 use session_text::body::{BodyLine, Round};
 use session_text::first::read_first;
-use session_text::query::read_query;
-use session_text::reply::Reply;
-use session_text::status::Why;
 use session_text::write::{write_published, write_put, write_reply};
 use std::alloc::Global;
 
@@ -125,6 +124,7 @@ fn answer_line(
         BodyLine::Put { layer, feature } => put(standing, layer, feature, out),
         BodyLine::Publish => publish(standing, out),
         BodyLine::Ask { lane, text } => ask(alloc, layer, standing, lane, &text, out),
+        BodyLine::Drop { .. } | BodyLine::Load { .. } | BodyLine::Limit { .. } => unreachable!(),
     }
 }
 
@@ -152,9 +152,8 @@ pub fn answer(alloc: Global, bytes: &[u8]) -> Result<Option<Vec<u8>>, Memory>
     ensures { IfOk result (λ o. MatchOption o (session_of bytes.now ≡ None)
         (λ text. (layer : LayerView) × (body : List BodyLine) × (session_of bytes.now ≡ Some (layer, body)) × IsPlainText (layer ∷ []) (body ∷ []) text.items)) }
 {
-    match read_first(alloc, bytes) {
-        Ok((layer, round)) => Ok(Some(answer_round(alloc, &layer, round)?)),
-        Err(Refused::Fault(Why::NotYet)) => Ok(None),
-        Err(Refused::Memory) => Err(Memory),
+    match read_first(alloc, bytes)? {
+        Some((layer, round)) => Ok(Some(answer_round(alloc, &layer, round)?)),
+        None => Ok(None),
     }
 }

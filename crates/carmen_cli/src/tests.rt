@@ -9,7 +9,8 @@ use crate::top::carmen;
 use crate::{tell, told_by};
 use geo_outside::device::{Failed, Sink, SinkError, Source};
 use geo_outside::memory::{MemorySink, MemorySource};
-use session_text::status::{Status, Why};
+use session_text::status::Status;
+use session_text::why::Why;
 use std::alloc::{AllocError, Global};
 use std::test::Fail;
 

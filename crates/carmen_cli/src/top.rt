@@ -9,7 +9,8 @@ ghost use Rattle.carmen_cli.specs.TopCall.{asks_for_plain, EndsAs, IsDecided};
 use crate::respond::answer;
 use crate::transfer::{TakeError, put_all, take_all};
 use geo_outside::device::{Sink, SinkError, Source};
-use session_text::status::{Status, Why};
+use session_text::status::Status;
+use session_text::why::Why;
 use std::alloc::Global;
 
 /// The words are the one word `plain`.

@@ -4,7 +4,7 @@ use Rattle.geo_base.specs.Context.{Agree}
 use Rattle.geo_base.specs.Order.{context_cmp, same_target}
 use Rattle.geo_base.specs.Best.{best_of}
 use Rattle.carmen_cli.specs.Links.{links_on_first_tiles, singles}
-use Rattle.carmen_cli.specs.Answering.{compat}
+use Rattle.geo_layer.specs.Layer.{compat}
 use Rattle.carmen_cli.proofs.OneLayer.{answer_is, first_agree, same_answer}
 use Rattle.carmen_cli.proofs.filter.answer_in_layer.Goals as goal
 

@@ -1,5 +1,5 @@
 use Rattle.std.proofs.Common.{◌∙◌, ◌-◌, ◌++◌, length, take, drop, sym, ap}
-use Rattle.feature_reader.specs.Tokens.{joined}
+use Rattle.geo_text.specs.Tokens.{joined}
 use Rattle.carmen_cli.proofs.Begins.{match_both, begins_more, split_first, behind_space, same_end}
 use Rattle.carmen_cli.proofs.matching.+after_run.Goals as goal
 

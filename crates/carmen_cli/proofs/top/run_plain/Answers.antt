@@ -2,7 +2,7 @@ use Rattle.std.proofs.Common.{◌∙◌, sym, ap, subst}
 use Rattle.std.specs.Io.KnownBytes.{Appends}
 use Rattle.std.proofs.KnownBytes.{Appends-nil}
 use Rattle.session_text.specs.FirstSession.{session_of}
-use Rattle.session_text.specs.declared.status.Why.TheVariants.{NotYet}
+use Rattle.session_text.specs.declared.why.Why.TheVariants.{NotYet}
 use Rattle.session_text.specs.declared.status.Status.TheVariants.{Done, BadLine, WriteFault, Memory}
 use Rattle.carmen_cli.specs.Reading.{whole_reading}
 use Rattle.carmen_cli.proofs.Outcome.{all_taken, nothing_yet, cut_short, given_up, finished, refused, decided}
