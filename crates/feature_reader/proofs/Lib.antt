@@ -1,5 +1,6 @@
 mod CollectedFacts
 mod Tables
+mod Rows
 mod TileTexts
 pub mod Each
 mod PlainFacts

@@ -16,7 +16,7 @@ use Rattle.std.proofs.lemmas.List.Kept.{AllPairs-cons}
 use Rattle.std.proofs.lemmas.Map.Keys.{sorted_head, sorted_tail}
 use Rattle.feature_reader.specs.FeatureView.{FeatureView}
 use Rattle.feature_reader.specs.declared.table.Place.{Place}
-use Rattle.feature_reader.specs.Table.{Table, IsTable, entry_of, comes_before, without, inserted, put, stands}
+use Rattle.feature_reader.specs.Table.{Table, IsTable, entry_of, comes_before, without, inserted, with_feature, stands}
 
 -- the order of places
 abbrev pub place_cmp : Place → Place → Ordering
@@ -30,7 +30,7 @@ Entries = List (Place × FeatureView)
 abbrev pub AtIds : Entries → Type 0
 AtIds es = AllByRecursion (λ e. e.0.id ≡ e.1.id) es
 
-place_cmp_total : IsTotalOrder place_cmp
+pub place_cmp_total : IsTotalOrder place_cmp
 place_cmp_total = then_total (on_total (λ k. k.layer) nat_cmp_total) (on_total (λ k. k.id) nat_cmp_total)
 
 -- what the order of two places says of the tests
@@ -52,12 +52,12 @@ tells k e =
     ] (ranked k.layer e.layer (nat_cmp k.layer e.layer) refl)
 
 -- what stands after a place stands after each place before it
-later : (k e : Place) (ks : List Place) → place_cmp k e ≡ Less → AllByRecursion (λ y. place_cmp e y ≡ Less) ks → AllByRecursion (λ y. place_cmp k y ≡ Less) ks
+pub later : (k e : Place) (ks : List Place) → place_cmp k e ≡ Less → AllByRecursion (λ y. place_cmp e y ≡ Less) ks → AllByRecursion (λ y. place_cmp k y ≡ Less) ks
 later k e [] h all = tt
 later k e (y ∷ ks) h all = (place_cmp_total.trans k e y h all.0, later k e ks h all.1)
 
 -- and after each place that is the same
-later_same : (k e : Place) (ks : List Place) → place_cmp k e ≡ Equal → AllByRecursion (λ y. place_cmp e y ≡ Less) ks → AllByRecursion (λ y. place_cmp k y ≡ Less) ks
+pub later_same : (k e : Place) (ks : List Place) → place_cmp k e ≡ Equal → AllByRecursion (λ y. place_cmp e y ≡ Less) ks → AllByRecursion (λ y. place_cmp k y ≡ Less) ks
 later_same k e [] h all = tt
 later_same k e (y ∷ ks) h all = (place_cmp_total.congr k e y h ∙ all.0, later_same k e ks h all.1)
 
@@ -66,11 +66,11 @@ told : (k : Place) (e : Place × FeatureView) → e.0.id ≡ e.1.id → Tells k 
 told k e is = subst (λ id. Tells k e.0.layer id (place_cmp k e.0)) is (tells k e.0)
 
 -- the same, where the order is known
-told_as : (k : Place) (e : Place × FeatureView) (o : Ordering) → e.0.id ≡ e.1.id → place_cmp k e.0 ≡ o → Tells k e.0.layer e.1.id o
+pub told_as : (k : Place) (e : Place × FeatureView) (o : Ordering) → e.0.id ≡ e.1.id → place_cmp k e.0 ≡ o → Tells k e.0.layer e.1.id o
 told_as k e o is eq = subst (λ p. Tells k e.0.layer e.1.id p) eq (told k e is)
 
 -- nothing is left out where all stand after the place
-none_left_out : (k : Place) (es : Entries) → AtIds es → AllByRecursion (λ y. place_cmp k y ≡ Less) (keys_of es) → without (map entry_of es) k.layer k.id ≡ map entry_of es
+pub none_left_out : (k : Place) (es : Entries) → AtIds es → AllByRecursion (λ y. place_cmp k y ≡ Less) (keys_of es) → without (map entry_of es) k.layer k.id ≡ map entry_of es
 none_left_out k [] ids all = refl
 none_left_out k (e ∷ es) ids all = rw (told_as k e Less ids.0 all.0).1 (ap (λ l. entry_of e ∷ l) (none_left_out k es ids.1 all.1))
 
@@ -88,11 +88,11 @@ comes_first layer f [] ids all = refl
 comes_first layer f (e ∷ es) ids all =
     ap (λ b. cond b ((layer, f) ∷ map entry_of (e ∷ es)) (entry_of e ∷ inserted layer f (map entry_of es))) (told_as (place_of layer f) e Less ids.0 all.0).0
 
--- a map's insertion is a put
-pub put_is : (layer : ℕ) (f : FeatureView) (es : Entries) → AtIds es → IsStrictlySortedBy place_cmp (keys_of es) → map entry_of (insert_entry place_cmp es (place_of layer f) f) ≡ put (map entry_of es) layer f
+-- a map's insertion puts the feature at its place
+pub put_is : (layer : ℕ) (f : FeatureView) (es : Entries) → AtIds es → IsStrictlySortedBy place_cmp (keys_of es) → map entry_of (insert_entry place_cmp es (place_of layer f) f) ≡ with_feature (map entry_of es) layer f
 put_is layer f [] ids sorted = refl
 put_is layer f (e ∷ es) ids sorted =
-    elim (place_cmp k e.0) as (λ o. place_cmp k e.0 ≡ o → map entry_of (match_ordering o ((k, f) ∷ e ∷ es) ((e.0, f) ∷ es) (e ∷ insert_entry place_cmp es k f)) ≡ put (map entry_of (e ∷ es)) layer f) [
+    elim (place_cmp k e.0) as (λ o. place_cmp k e.0 ≡ o → map entry_of (match_ordering o ((k, f) ∷ e ∷ es) ((e.0, f) ∷ es) (e ∷ insert_entry place_cmp es k f)) ≡ with_feature (map entry_of (e ∷ es)) layer f) [
       | Less ↦ λ is.
           let all : AllByRecursion (λ y. place_cmp k y ≡ Less) (keys_of (e ∷ es)) = (is, later k e.0 (keys_of es) is after) in
           sym (ap (inserted layer f) (none_left_out k (e ∷ es) ids all) ∙ comes_first layer f (e ∷ es) ids all)

@@ -1,5 +1,5 @@
 -- Features as data, and what their type keeps.
-use Rattle.std.specs.Prelude.{◌≡◌, ◌≢◌, ℕ, ◌<◌, ◌≤◌, ◌⊎◌, List, length, All, AllPairs}
+use Rattle.std.specs.Prelude.{◌≡◌, ◌≢◌, ℕ, ◌<◌, ◌≤◌, ◌⊎◌, List, [], ◌∷◌, length, All, AllPairs}
 use Rattle.std.specs.Ordering.{nat_cmp, ordering_then}
 use Rattle.std.specs.declared.cmp.Ordering.{Ordering}
 use Rattle.std.specs.declared.cmp.Ordering.TheVariants.{Less}
@@ -14,6 +14,15 @@ pub record FeatureView : Type 0 where
   pub score : ℕ
   pub phrases : List Phrase
   pub tiles : List TileView
+
+-- the zoom of the first of some tiles, 0 where there is none
+abbrev pub first_zoom : List TileView → ℕ
+first_zoom [] = 0
+first_zoom (t ∷ ts) = t.z
+
+-- the zoom of a feature's tiles
+abbrev pub zoom_of : FeatureView → ℕ
+zoom_of f = first_zoom f.tiles
 
 -- the order of tiles of one zoom: by column, then by row
 abbrev pub tile_cmp : TileView → TileView → Ordering

@@ -1,10 +1,12 @@
--- The table of features, as the fold of the puts.
-use Rattle.std.specs.Prelude.{◌≡◌, ℕ, Bool, true, List, [], ◌∷◌, ◌&&◌, ◌||◌, ◌==◌, not, nat_lt, filter, if◌then◌else◌, AllPairs}
+-- The table of features, as the fold of the puts and drops, within its limits.
+use Rattle.std.specs.Prelude.{◌≡◌, ℕ, ◌≤◌, ◌*◌, Bool, true, List, [], ◌∷◌, ◌&&◌, ◌||◌, ◌==◌, not, nat_lt, nat_le, length, sum_by, filter, if◌then◌else◌, AllPairs, Result, Ok, Err}
 use Rattle.std.specs.List.{list_any}
 use Rattle.feature_reader.specs.FeatureView.{FeatureView}
 use Rattle.feature_reader.specs.declared.table.Place.{Place}
-use Rattle.feature_reader.specs.declared.table.Taken.{Taken}
-use Rattle.feature_reader.specs.declared.table.Taken.TheVariants.{New, Changed}
+use Rattle.feature_reader.specs.declared.taker.PutFault.{PutFault}
+use Rattle.feature_reader.specs.declared.taker.PutFault.TheVariants.{TooManyFeatures, TooManyRows}
+use Rattle.feature_reader.specs.declared.taker.Taken.{Taken}
+use Rattle.feature_reader.specs.declared.taker.Taken.TheVariants.{New, Changed}
 
 -- features with their layers, by layer and then id, each pair once
 abbrev pub Table : Type 0
@@ -35,14 +37,51 @@ abbrev pub inserted : ℕ → FeatureView → Table → Table
 inserted layer f [] = (layer, f) ∷ []
 inserted layer f (entry ∷ entries) = if comes_before layer f.id entry then (layer, f) ∷ entry ∷ entries else entry ∷ inserted layer f entries
 
--- the table after a put: the feature at its place, instead of the one that stood there
-abbrev pub put : Table → ℕ → FeatureView → Table
-put table layer f = inserted layer f (without table layer f.id)
+-- the rows of a feature: its phrases times its tiles
+abbrev pub rows_of : FeatureView → ℕ
+rows_of f = length f.phrases * length f.tiles
 
--- what a put answers: the feature is new, or it changed the one that stood there
-abbrev pub put_answer : Table → ℕ → FeatureView → Taken
-put_answer table layer f = if stands table layer f.id then Changed else New
+-- the rows of a table
+abbrev pub rows : Table → ℕ
+rows table = sum_by (λ entry. rows_of entry.1) table
+
+-- the most features of a table
+abbrev pub most_features : ℕ
+most_features = 262144
+
+-- the most rows of a table
+abbrev pub most_rows : ℕ
+most_rows = 8388608
+
+-- the table with the feature at its place, instead of the one that stood there
+abbrev pub with_feature : Table → ℕ → FeatureView → Table
+with_feature table layer f = inserted layer f (without table layer f.id)
+
+-- a feature of this layer and id would be one too many
+abbrev pub is_one_too_many : Table → ℕ → ℕ → Bool
+is_one_too_many table layer id = not (stands table layer id) && nat_le most_features (length table)
+
+-- what a put answers: the feature is new, or it changed the one that stood there; or it would be one too many, or its rows would be
+abbrev pub put_answer : Table → ℕ → FeatureView → Result Taken PutFault
+put_answer table layer f =
+    if is_one_too_many table layer f.id then Err TooManyFeatures
+    else if nat_lt most_rows (rows (with_feature table layer f)) then Err TooManyRows
+    else if stands table layer f.id then Ok Changed
+    else Ok New
+
+-- the table after a put that was answered so: a refused put leaves it
+abbrev pub after_put : Table → ℕ → FeatureView → Result Taken PutFault → Table
+after_put table layer f (Ok taken) = with_feature table layer f
+after_put table layer f (Err fault) = table
+
+-- the table after a put
+abbrev pub put : Table → ℕ → FeatureView → Table
+put table layer f = after_put table layer f (put_answer table layer f)
 
 -- the entries rise by layer and then id
 abbrev pub IsTable : Table → Type 0
 IsTable table = AllPairs (λ a b. comes_before a.0 a.1.id b ≡ true) table
+
+-- the table keeps its limits
+abbrev pub IsWithinLimits : Table → Type 0
+IsWithinLimits table = (length table ≤ most_features) × (rows table ≤ most_rows)

@@ -9,6 +9,7 @@ pub mod read_feature;
 mod score;
 pub mod simple;
 pub mod table;
+pub mod taker;
 mod text_phrases;
 mod tile_text;
 pub mod tiles;
