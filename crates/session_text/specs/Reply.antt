@@ -1,10 +1,12 @@
 -- Replies and the lines of a session's output, as text.
-use Rattle.std.specs.Prelude.{ℕ, ◌*◌, List, ◌++◌, length, codes, decimal, flat_map, sum_by}
+use Rattle.std.specs.Prelude.{ℕ, ◌*◌, List, ◌++◌, length, codes, decimal, flat_map, sum_by, Result, Ok, Err}
 use Rattle.geo_base.specs.TileView.{TileView}
 use Rattle.geo_base.specs.declared.link.Link.{Link}
 use Rattle.geo_base.specs.Order.{target_score}
-use Rattle.feature_reader.specs.declared.table.Taken.{Taken}
-use Rattle.feature_reader.specs.declared.table.Taken.TheVariants.{New, Changed}
+use Rattle.feature_reader.specs.declared.taker.PutFault.{PutFault}
+use Rattle.feature_reader.specs.declared.taker.PutFault.TheVariants.{TooManyFeatures, TooManyRows}
+use Rattle.feature_reader.specs.declared.taker.Taken.{Taken}
+use Rattle.feature_reader.specs.declared.taker.Taken.TheVariants.{New, Changed}
 use Rattle.geo_query.specs.declared.query.QueryFault.{QueryFault}
 use Rattle.geo_query.specs.declared.query.QueryFault.TheVariants.{WrongOption, Box, Long, Empty, Tokens}
 use Rattle.geo_query.specs.declared.reply.Reply.{Reply}
@@ -45,14 +47,16 @@ answer_text Memory = codes "memory\n"
 abbrev pub reply_text : ℕ → ℕ → Reply → List ℕ
 reply_text lane place reply = codes "ask " ++ decimal lane ++ codes " " ++ decimal place ++ codes " " ++ answer_text reply
 
--- what a put answers, in a word
-abbrev pub taken_word : Taken → List ℕ
-taken_word New = codes "new"
-taken_word Changed = codes "changed"
+-- what a put answers, in a word: the feature is new, or it changed one that stood; or there would be too many features, or too many rows
+abbrev pub taken_word : Result Taken PutFault → List ℕ
+taken_word (Ok New) = codes "new"
+taken_word (Ok Changed) = codes "changed"
+taken_word (Err TooManyFeatures) = codes "features"
+taken_word (Err TooManyRows) = codes "rows"
 
 -- the text of a put: its layer, its feature, and what it answers
-abbrev pub put_text : ℕ → ℕ → Taken → List ℕ
-put_text layer id taken = codes "put " ++ decimal layer ++ codes " " ++ decimal id ++ codes " " ++ taken_word taken ++ codes "\n"
+abbrev pub put_text : ℕ → ℕ → Result Taken PutFault → List ℕ
+put_text layer id answer = codes "put " ++ decimal layer ++ codes " " ++ decimal id ++ codes " " ++ taken_word answer ++ codes "\n"
 
 -- the text of a publication: its number
 abbrev pub published_text : ℕ → List ℕ

@@ -6,7 +6,7 @@ ghost use Rattle.geo_base.specs.Order.{target_score};
 ghost use Rattle.session_text.specs.Reply.{tile_text, link_text, context_text, fault_text, answer_text, reply_text, taken_word, put_text, published_text};
 ghost use Rattle.geo_query.specs.declared.reply.Reply.TheVariants.{Unreadable, Grids};
 
-use feature_reader::table::Taken;
+use feature_reader::taker::{PutFault, Taken};
 use geo_base::answer::Contexts;
 use geo_base::link::Link;
 use geo_base::refusal::Memory;
@@ -199,23 +199,30 @@ pub fn write_reply(out: &mut Vec<u8>, lane: u8, place: u64, r: &Reply) -> Result
 }
 
 /// What a put answers, in a word.
-fn word_of(taken: Taken) -> &'static [u8]
-    ensures { result.now ≡ taken_word taken }
+fn word_of(answer: &Result<Taken, PutFault>) -> &'static [u8]
+    ensures { result.now ≡ taken_word answer.now }
 {
-    match taken {
-        Taken::New => b"new",
-        Taken::Changed => b"changed",
+    match answer {
+        Ok(Taken::New) => b"new",
+        Ok(Taken::Changed) => b"changed",
+        Err(PutFault::TooManyFeatures) => b"features",
+        Err(PutFault::TooManyRows) => b"rows",
     }
 }
 
 /// Appends the text of a put: its layer, the id of its feature, and what it answers.
-pub fn write_put(out: &mut Vec<u8>, layer: u8, id: u32, taken: Taken) -> Result<(), Memory>
-    ensures ok { OnOk result (out.new.items ≡ out.old.items ++ put_text layer id taken) }
+pub fn write_put(
+    out: &mut Vec<u8>,
+    layer: u8,
+    id: u32,
+    answer: &Result<Taken, PutFault>,
+) -> Result<(), Memory>
+    ensures ok { OnOk result (out.new.items ≡ out.old.items ++ put_text layer id answer.now) }
     ensures err { OnErr result (StartsWith out.new.items out.old.items) }
 {
     push_number(out, b"put ", u64::from(layer))?;
     push_number(out, b" ", u64::from(id))?;
-    push_both(out, b" ", word_of(taken))?;
+    push_both(out, b" ", word_of(answer))?;
     push(out, b"\n")?;
     Ok(())
 }
@@ -272,7 +279,10 @@ mod tests {
             },
         };
         let mut out = Vec::new(alloc);
-        write_put(&mut out, 0, 7, Taken::New)?;
+        write_put(&mut out, 0, 7, &Ok(Taken::New))?;
+        write_put(&mut out, 1, 8, &Ok(Taken::Changed))?;
+        write_put(&mut out, 2, 67_108_863, &Err(PutFault::TooManyFeatures))?;
+        write_put(&mut out, 15, 0, &Err(PutFault::TooManyRows))?;
         write_published(&mut out, 4)?;
         write_reply(&mut out, 3, 5, &reply)?;
         write_reply(&mut out, 3, 6, &Reply::Unreadable(QueryFault::Empty))?;
@@ -282,7 +292,7 @@ mod tests {
     #[test]
     fn an_answer_has_a_line_for_each_context(rt: HostRuntime) {
         let text =
-            "put 0 7 new\npublished 4\nask 3 5 gen 4 found 2\ncontext 20000/20000 score 9 0:7@6/32/32[0,2)=20000\ncontext 9600/20000 score 0 15:67108863@16/65535/0[1,2)=9600\nask 3 6 unreadable 4 Empty\n";
+            "put 0 7 new\nput 1 8 changed\nput 2 67108863 features\nput 15 0 rows\npublished 4\nask 3 5 gen 4 found 2\ncontext 20000/20000 score 9 0:7@6/32/32[0,2)=20000\ncontext 9600/20000 score 0 15:67108863@16/65535/0[1,2)=9600\nask 3 6 unreadable 4 Empty\n";
         match two_contexts(rt.alloc()) {
             Ok(out) => assert!(rt; out.as_slice() == text.as_bytes()),
             Err(_) => panic!(rt; "out of memory"),
