@@ -1,12 +1,14 @@
 -- Lines that are answered one after another.
 use Rattle.std.proofs.Common.{◌≡◌, ◌∙◌, ◌+◌, ◌<◌, ◌≤◌, ℕ, zero, suc, Bool, cond, true, false, List, [], ◌∷◌, ◌++◌, length, All, refl, sym, ap, subst, arith, append_assoc, length-set}
-use Rattle.std.specs.Prelude.{◌&&◌, nat_le, count_by, replicate, slice_index, slice_set, not}
+use Rattle.std.specs.Prelude.{◌&&◌, nat_le, Result, Ok, Err, count_by, replicate, slice_index, slice_set, not}
 use Rattle.std.proofs.lemmas.Bool.{and_parts, leb-true}
 use Rattle.std.proofs.lemmas.List.Elements.{All-cons, All-head, All-tail, All-weaker, All-filter, All-set}
-use Rattle.std.proofs.lemmas.List.Sums.{length-filter, count_by-le-length, sum_by-cons}
+use Rattle.std.proofs.lemmas.List.Sums.{sum_by-cons}
 use Rattle.geo_layer.specs.Layer.{LayerView}
 use Rattle.feature_reader.specs.FeatureView.{FeatureView}
-use Rattle.feature_reader.specs.Table.{Table, is_at, comes_before, without, inserted, put}
+use Rattle.feature_reader.specs.Table.{Table, is_at, comes_before, without, inserted, put_answer, after_put, put}
+use Rattle.feature_reader.specs.declared.taker.PutFault.{PutFault}
+use Rattle.feature_reader.specs.declared.taker.Taken.{Taken}
 use Rattle.session_text.specs.declared.body.BodyLine.{BodyLine}
 use Rattle.session_text.specs.declared.body.BodyLine.TheVariants.{Put, Drop, Load, Limit, Publish, Ask}
 use Rattle.session_text.specs.FirstSession.{is_put, is_publish, is_ask, are_few}
@@ -25,21 +27,15 @@ inserted_all P layer f (e ∷ es) one all = by (inserted_all P layer f es one (A
     by later true is = rw is (All-cons P (layer, f) (e ∷ es) one all)
     by later false is = rw is (All-cons P e (inserted layer f es) (All-head P e es all) later)
 
-inserted_length : (layer : ℕ) (f : FeatureView) (table : Table) → length (inserted layer f table) ≡ length table + 1
-inserted_length layer f [] = refl
-inserted_length layer f (e ∷ es) = by (inserted_length layer f es) (comes_before layer f.id e) refl
-  where
-    by : length (inserted layer f es) ≡ length es + 1 → (b : Bool) → comes_before layer f.id e ≡ b → length (inserted layer f (e ∷ es)) ≡ length (e ∷ es) + 1
-    by later true is = rw is (omega arith)
-    by later false is = rw is (omega (arith, later))
-
-put_length : (table : Table) (layer : ℕ) (f : FeatureView) → length (put table layer f) ≤ length table + 1
-put_length table layer f = omega (arith, inserted_length layer f (without table layer f.id), length-filter (λ e. not (is_at layer f.id e)) table, count_by-le-length (λ e. not (is_at layer f.id e)) table)
-
 put_layer : (zoom : ℕ) (table : Table) (layer : ℕ) (f : FeatureView) → (layer ≡ 0) × All (λ t. t.z ≡ zoom) f.tiles → IsOfLayer zoom table → IsOfLayer zoom (put table layer f)
-put_layer zoom table layer f one all =
-    let P : ℕ × FeatureView → Type 0 = λ e. (e.0 ≡ 0) × All (λ t. t.z ≡ zoom) e.1.tiles in
-    inserted_all P layer f (without table layer f.id) one (All-filter (λ e. not (is_at layer f.id e)) P table all)
+put_layer zoom table layer f one all = by (put_answer table layer f)
+  where
+    P : ℕ × FeatureView → Type 0
+    P e = (e.0 ≡ 0) × All (λ t. t.z ≡ zoom) e.1.tiles
+
+    by : (answer : Result Taken PutFault) → IsOfLayer zoom (after_put table layer f answer)
+    by (Ok taken) = inserted_all P layer f (without table layer f.id) one (All-filter (λ e. not (is_at layer f.id e)) P table all)
+    by (Err fault) = all
 
 -- ---- what stands after a line
 
@@ -83,7 +79,6 @@ ready_after zoom layers (Put layer f) left old new out out_after eight is step =
       lines = All-tail (IsPlainLine zoom) (Put layer f) left is.lines;
       table = subst (IsOfLayer zoom) (sym table) (put_layer zoom old.table layer f (All-head (IsPlainLine zoom) (Put layer f) left is.lines) is.table);
       published = subst (IsOfLayer zoom) (sym published) is.published;
-      puts = omega (arith, is.puts, put_length old.table layer f, ap length table, count_hit is_put (Put layer f) left refl);
       publications = omega (arith, is.publications, number, count_skip is_publish (Put layer f) left refl);
       asks = subst (All (λ n. n + count_by is_ask left ≤ 4096)) (sym step.places) (no_more_asks (count_by is_ask left) old.asks _ (count_skip is_ask (Put layer f) left refl) is.asks);
     }
@@ -95,7 +90,6 @@ ready_after zoom layers Publish left old new out out_after eight is step =
       lines = All-tail (IsPlainLine zoom) Publish left is.lines;
       table = subst (IsOfLayer zoom) (sym table) is.table;
       published = subst (IsOfLayer zoom) (sym published) is.table;
-      puts = omega (arith, is.puts, ap length table, count_skip is_put Publish left refl);
       publications = omega (arith, is.publications, number, count_hit is_publish Publish left refl);
       asks = subst (All (λ n. n + count_by is_ask left ≤ 4096)) (sym step.places) (no_more_asks (count_by is_ask left) old.asks _ (count_skip is_ask Publish left refl) is.asks);
     }
@@ -108,7 +102,6 @@ ready_after zoom layers (Ask lane text) left old new out out_after eight is step
       lines = All-tail (IsPlainLine zoom) (Ask lane text) left is.lines;
       table = subst (IsOfLayer zoom) (sym table) is.table;
       published = subst (IsOfLayer zoom) (sym published) is.published;
-      puts = omega (arith, is.puts, ap length table, count_skip is_put (Ask lane text) left refl);
       publications = omega (arith, is.publications, number, count_skip is_publish (Ask lane text) left refl);
       asks = subst (All (λ n. n + count_by is_ask left ≤ 4096)) (sym step.places) (asks_after old.asks lane (count_by is_ask left) (omega (arith, first, eight)) (no_more_asks (suc (count_by is_ask left)) old.asks _ (count_hit is_ask (Ask lane text) left refl) is.asks));
     }
@@ -138,7 +131,6 @@ ready_at_first zoom lines s table published number asks plain few =
       lines = plain;
       table = subst (IsOfLayer zoom) (sym table) (no_entries zoom);
       published = subst (IsOfLayer zoom) (sym published) (no_entries zoom);
-      puts = omega (arith, leb-true _ _ parts.0, ap length table);
       publications = omega (arith, leb-true _ _ more.0, number);
       asks = subst (All (λ n. n + count_by is_ask lines ≤ 4096)) (sym asks) (all_zero (count_by is_ask lines) 8 some_asks);
     }

@@ -1,9 +1,9 @@
 -- What holds of the lines of an accepted session, and what one of them does to what stands.
-use Rattle.std.specs.Prelude.{◌≡◌, ℕ, ◌+◌, ◌≤◌, List, ◌++◌, length, count_by, All, IsAscii, ⊤}
+use Rattle.std.specs.Prelude.{◌≡◌, ℕ, ◌+◌, ◌≤◌, List, ◌++◌, count_by, All, IsAscii, ⊤}
 use Rattle.geo_layer.specs.Layer.{LayerView}
 use Rattle.session_text.specs.declared.body.BodyLine.{BodyLine}
 use Rattle.session_text.specs.declared.body.BodyLine.TheVariants.{Put, Drop, Load, Limit, Publish, Ask}
-use Rattle.session_text.specs.FirstSession.{is_put, is_publish, is_ask}
+use Rattle.session_text.specs.FirstSession.{is_publish, is_ask}
 use Rattle.carmen_cli.specs.Links.{IsOfLayer}
 use Rattle.carmen_cli.specs.Plain.{Built, IsLineText, after_line, places_after}
 use Rattle.carmen_cli.specs.declared.respond.Standing.{Standing}
@@ -26,7 +26,6 @@ pub record IsReady (zoom : ℕ) (left : List BodyLine) (s : Standing) : Type 0 w
   pub lines : All (IsPlainLine zoom) left
   pub table : IsOfLayer zoom s.table
   pub published : IsOfLayer zoom s.published
-  pub puts : length s.table + count_by is_put left ≤ 16
   pub publications : s.number + count_by is_publish left ≤ 1
   pub asks : All (λ n. n + count_by is_ask left ≤ 4096) s.asks
 

@@ -1,7 +1,8 @@
 //! Answers the lines of a session in order, and makes their text.
 
-ghost use Rattle.std.specs.Prelude.{◌≡◌, ◌⊎◌, ◌<◌, ◌≤◌, List, [], ◌∷◌, length, true, All, IsAscii, OnOk, IfOk, MatchOption, Some, None};
+ghost use Rattle.std.specs.Prelude.{◌≡◌, ◌⊎◌, ◌<◌, ◌≤◌, List, [], ◌∷◌, true, All, IsAscii, OnOk, IfOk, MatchOption, Some, None};
 ghost use Rattle.geo_layer.specs.Layer.{LayerView};
+ghost use Rattle.feature_reader.specs.Table.{put, put_answer};
 ghost use Rattle.session_text.specs.declared.body.BodyLine.{BodyLine};
 ghost use Rattle.geo_query.specs.declared.reply.Reply.{Reply};
 ghost use Rattle.session_text.specs.declared.body.BodyLine.TheVariants.{Put, Publish, Ask};
@@ -14,6 +15,7 @@ ghost use Rattle.carmen_cli.specs.PlainLines.{IsPlainLine, IsReady, IsStep};
 use crate::filter::answer_in_layer;
 use feature_reader::feature::Feature;
 use feature_reader::table::FeatureTable;
+use feature_reader::taker::{PutFault, Taken, Taker};
 use geo_base::refusal::{Memory, Refused};
 use geo_layer::layer::Layer;
 use geo_query::read_query::read_query;
@@ -56,6 +58,23 @@ fn reply(alloc: Global, layer: &Layer, published: &FeatureTable, number: u32, te
     }
 }
 
+/// Takes a feature into a layer, and says what the put answers.
+fn taken(
+    table: &mut FeatureTable,
+    layer: u8,
+    feature: Feature,
+) -> Result<Result<Taken, PutFault>, Memory>
+    requires { layer ≡ 0 }
+    ensures answer { IfOk result (λ answer. answer ≡ put_answer table.old layer feature) }
+    ensures table { OnOk result (table.new ≡ put table.old layer feature) }
+{
+    match table.take(layer, feature) {
+        Ok(taken) => Ok(Ok(taken)),
+        Err(Refused::Fault(fault)) => Ok(Err(fault)),
+        Err(Refused::Memory) => Err(Memory),
+    }
+}
+
 /// Puts a feature into a layer.
 fn put(
     standing: &mut Standing,
@@ -63,12 +82,12 @@ fn put(
     feature: Feature,
     out: &mut Vec<u8>,
 ) -> Result<(), Memory>
-    requires { length standing.old.table < 16 }
+    requires { layer ≡ 0 }
     ensures { (layers : List LayerView) → OnOk result (IsStep layers (Put layer feature) standing.old standing.new out.old.items out.new.items) }
 {
     let id = feature.id();
-    let taken = standing.table.take(layer, feature)?;
-    write_put(out, layer, id, taken)
+    let answer = taken(&mut standing.table, layer, feature)?;
+    write_put(out, layer, id, &answer)
 }
 
 /// Publishes a generation of the features that stand.
