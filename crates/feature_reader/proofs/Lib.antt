@@ -10,3 +10,4 @@ mod PhraseFacts
 mod Levels
 mod FeatureFacts
 mod WorkedFeatures
+pub mod Zooms

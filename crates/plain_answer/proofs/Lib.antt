@@ -1,0 +1,12 @@
+mod Admitted
+mod Agreeing
+mod Answered
+mod Begins
+mod Counts
+mod Differing
+mod EntryFacts
+mod Factors
+mod LayerTokens
+mod Offers
+pub mod OfHead
+mod RunLists

@@ -1,0 +1,63 @@
+use Rattle.std.proofs.Common.{◌≡◌, ◌∙◌, ◌-◌, ◌+◌, ◌<◌, ◌≤◌, ◌++◌, ◌∷◌, [], suc, true, List, length, take, All, filter, sym, ap, subst, arith, rules, append-nil}
+use Rattle.std.specs.Prelude.{flat_map, Contains}
+use Rattle.std.proofs.lemmas.List.{take_all}
+use Rattle.geo_base.specs.declared.link.Link.{Link}
+use Rattle.geo_base.specs.Link.{stacks}
+use Rattle.geo_layer.specs.Layer.{compat}
+use Rattle.plain_answer.specs.Offered.{IsBestOf, with_more}
+use Rattle.std.proofs.lemmas.List.{length-append}
+use Rattle.geo_base.specs.Link.{admits_below}
+use Rattle.std.proofs.lemmas.List.Elements.{All-push}
+use Rattle.plain_answer.proofs.Admitted.{kept, admitted_by_all, All-member}
+use Rattle.plain_answer.proofs.Offers.{offered_one, full, gone_on, goes_on}
+use Rattle.plain_answer.proofs.chains.+offer_with.Goals as goal
+
+pub loop-link-init : goal.loop-link-init
+loop-link-init t c all seen alike from below best =
+    subst (λ l. IsBestOf all l c.offer.new.self) (sym (append-nil (seen ++ c.args.context.now ∷ []))) (offered_one all seen c.args.context.now c.args.top.now c.offer.new.self alike from best c.offer.ensures)
+
+pub returns-else-len-lt16 : goal.returns-else-len-lt16
+returns-else-len-lt16 t c all seen alike from below best =
+    let none : 16 - length c.args.context.now ≡ 0 = search (rules, arith) in
+    subst (λ l. IsBestOf all l c.offer.new.self) (full (compat c.args.layers.now) seen c.args.context.now c.args.below.now (16 - length c.args.context.now) none) (offered_one all seen c.args.context.now c.args.top.now c.offer.new.self alike from best c.offer.ensures)
+
+pub returns-after-loop-link : goal.returns-after-loop-link
+returns-after-loop-link t c all seen alike from below best =
+    let room : 16 - length c.args.context.now ≡ suc (15 - length c.args.context.now) = search (rules, arith) in
+    let done : length c.args.below.now ≤ c.loop-link.link-index = search (rules, arith) in
+    let layers = compat c.args.layers.now in
+    subst (λ l. IsBestOf all l c.loop-link.top)
+    (ap (λ (ls : List Link). (seen ++ c.args.context.now ∷ []) ++ flat_map (λ a. with_more layers (15 - length c.args.context.now) (c.args.context.now ++ a ∷ []) (filter (stacks layers a) c.args.below.now)) ls) (take_all c.loop-link.link-index c.args.below.now done)
+    ∙ gone_on layers seen c.args.context.now c.args.below.now (16 - length c.args.context.now) (15 - length c.args.context.now) room)
+    (c.loop-link.invariant all seen alike from below best)
+
+pub offer_with-requires : goal.offer_with-requires
+offer_with-requires t c =
+    let longer : length c.push.new.self ≡ length c.args.context.now + 1 = ap (length {A = Link}) c.push.ensures ∙ length-append c.args.context.now (c.link-item.result ∷ []) in
+    let rest : c.deref.result.now ≡ filter (stacks (compat c.args.layers.now) c.link-item.result) c.args.below.now = search rules in (
+      omega (arith, longer, c.if-len-lt16.true, c.len.ensures.value),
+      (
+        kept (λ l. l.layer < length c.args.layers.now) (compat c.args.layers.now) c.link-item.result c.args.below.now c.deref.result.now rest c.requires.layers,
+        subst (All (λ l. All (λ a. admits_below a l ≡ true) c.push.new.self)) (sym rest) (admitted_by_all (compat c.args.layers.now) c.args.context.now c.push.new.self c.args.below.now c.link-item.result c.push.ensures c.requires.admitted),
+      ),
+    )
+
+pub loop-link-preserved : goal.loop-link-preserved
+loop-link-preserved t c all seen alike from below best =
+    let layers = compat c.args.layers.now in
+    let link = c.link-item.result in
+    let within : c.loop-link.link-index < length c.args.below.now = search (rules, arith) in
+    let rest : c.deref.result.now ≡ filter (stacks layers link) c.args.below.now = search rules in
+    let longer : length c.push.new.self ≡ length c.args.context.now + 1 = ap (length {A = Link}) c.push.ensures ∙ length-append c.args.context.now (link ∷ []) in
+    let room : 16 - length c.push.new.self ≡ 15 - length c.args.context.now = omega (arith, longer) in
+    let chosen : Contains all link = All-member all c.args.below.now c.loop-link.link-index link within c.link-item.is below in
+    let base = (seen ++ c.args.context.now ∷ []) ++ flat_map (λ a. with_more layers (15 - length c.args.context.now) (c.args.context.now ++ a ∷ []) (filter (stacks layers a) c.args.below.now)) (take c.loop-link.link-index c.args.below.now) in
+    let next = c.in_ok-offer_with.ensures all base alike
+    (subst (All (Contains all)) (sym c.push.ensures) (All-push (Contains all) c.args.context.now link from chosen))
+    (kept (Contains all) layers link c.args.below.now c.deref.result.now rest below)
+    (c.loop-link.invariant all seen alike from below best) in
+    subst (λ l. IsBestOf all l c.offer_with.new.top)
+    (ap (λ (x : List Link). base ++ with_more layers (16 - length c.push.new.self) x c.deref.result.now) c.push.ensures
+    ∙ (ap (λ (x : List Link). base ++ with_more layers (16 - length c.push.new.self) (c.args.context.now ++ link ∷ []) x) rest
+    ∙ goes_on layers (seen ++ c.args.context.now ∷ []) c.args.context.now c.args.below.now (15 - length c.args.context.now) (16 - length c.push.new.self) c.loop-link.link-index link link room within c.link-item.is))
+    next

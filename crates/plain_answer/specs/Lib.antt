@@ -1,0 +1,5 @@
+pub mod Match
+pub mod Links
+pub mod Count
+pub mod Answering
+pub mod Offered

@@ -1,0 +1,87 @@
+//! All contexts of some links, each offered to a list of the best.
+
+ghost use Rattle.std.specs.Prelude.{◌≡◌, ◌+◌, ◌-◌, ◌<◌, ◌≤◌, ◌++◌, ℕ, true, List, Contains, length, filter, All, OnOk, IfOk};
+ghost use Rattle.geo_base.specs.declared.link.Link.{Link};
+ghost use Rattle.geo_base.specs.Link.{admits_below, stacks};
+ghost use Rattle.geo_base.specs.Answer.{best};
+ghost use Rattle.geo_base.specs.Context.{Agree};
+ghost use Rattle.geo_layer.specs.Layer.{compat};
+ghost use Rattle.plain_answer.specs.Offered.{IsBestOf, with_more};
+
+use geo_base::context::Context;
+use geo_base::link::Link;
+use geo_base::refusal::Memory;
+use geo_layer::layers::Layers;
+use std::alloc::Global;
+use top_list::TopList;
+
+/// Whether b may be stacked on a.
+fn stacks(layers: &Layers, a: &Link, b: &Link) -> bool
+    requires a { a.now.layer < length layers.now }
+    requires b { b.now.layer < length layers.now }
+    ensures { result ≡ stacks (compat layers.now) a.now b.now }
+{
+    b.layer < a.layer
+        && (a.to <= b.from || b.to <= a.from)
+        && b.tile.holds(&a.tile)
+        && layers.compatible(a.layer, b.layer)
+}
+
+/// Those of some links that may be stacked on this one.
+fn admitted(
+    alloc: Global,
+    layers: &Layers,
+    link: &Link,
+    links: &[Link],
+) -> Result<Vec<Link>, Memory>
+    requires one { link.now.layer < length layers.now }
+    requires all { All (λ l. l.layer < length layers.now) links.now }
+    ensures { IfOk result (λ v. v.items ≡ filter (stacks (compat layers.now) link.now) links.now) }
+{
+    let mut below = Vec::new(alloc);
+    for other in links {
+        if stacks(layers, link, other) {
+            below.push(*other)?;
+        }
+    }
+    Ok(below)
+}
+
+/// Offers a context, and each that goes on from it by some of these links.
+fn offer_with(
+    alloc: Global,
+    layers: &Layers,
+    top: &mut TopList,
+    context: &Context,
+    below: &[Link],
+) -> Result<(), Memory>
+    requires layers { All (λ l. l.layer < length layers.now) below.now }
+    requires admitted { All (λ l. All (λ a. admits_below a l ≡ true) context.now) below.now }
+    ensures { (all : List Link) → (seen : List (List Link)) → Agree all → All (Contains all) context.now → All (Contains all) below.now → IsBestOf all seen top.old
+        → OnOk result (IsBestOf all (seen ++ with_more (compat layers.now) (16 - length context.now) context.now below.now) top.new) }
+{
+    top.offer(context);
+    if context.len() < 16 {
+        for link in below {
+            let mut longer = *context;
+            longer.push(*link);
+            let rest = admitted(alloc, layers, link, below)?;
+            offer_with(alloc, layers, top, &longer, &rest)?;
+        }
+    }
+    Ok(())
+}
+
+/// The best contexts of some links of these layers, which agree on the zoom of each layer and the score of each feature.
+pub fn best_contexts(alloc: Global, layers: &Layers, links: &[Link]) -> Result<TopList, Memory>
+    requires layers { All (λ l. l.layer < length layers.now) links.now }
+    requires agree { Agree links.now }
+    ensures { IfOk result (λ top. top ≡ best (compat layers.now) links.now) }
+{
+    let mut top = TopList::new(alloc)?;
+    for link in links {
+        let rest = admitted(alloc, layers, link, links)?;
+        offer_with(alloc, layers, &mut top, &Context::new(*link), &rest)?;
+    }
+    Ok(top)
+}
