@@ -1,9 +1,6 @@
-mod Begins
-mod Products
-mod RunLists
-mod LinkFacts
-mod OneLayer
-mod Accepted
-mod Rounds
-mod Pieces
+mod Kept
+mod Moves
 mod Outcome
+mod Pieces
+mod Steps
+mod Texts

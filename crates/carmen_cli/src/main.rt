@@ -1,9 +1,9 @@
 //! The geocoder's program: it reads a session on standard input and writes the answers on standard output.
 #![tactic(auto)]
 
-mod filter;
-mod matching;
+mod reader;
 mod respond;
+mod running;
 #[cfg(test)]
 mod tests;
 mod top;
@@ -35,14 +35,16 @@ usage:
   carmen --version  say the version
 
 example:
-  $ printf 'carmen 1\\nlayer {\"name\":\"place\",\"zoom\":6}\\npublish\\nask 0 auto=0 | york\\nend\\n' | carmen plain
+  $ printf 'carmen 1\\nlayer {\"name\":\"place\",\"zoom\":6}\\npublish\\nask 0 york\\nend\\n' | carmen plain
   published 1
   ask 0 0 gen 1 found 0
 
 exit status, told on standard error where it isn't 0:
   0  the session was read to its end, and all of it is answered
   1  the words aren't understood
-  2  the session is refused; line 0 stands for the session as a whole
+  2  a line of the session is refused; its number and its fault are told
+  3  the session ended before an `end` line
+  4  the session has too many bytes
   5  reading standard input failed
   6  writing to standard output failed
   7  out of memory

@@ -1,17 +1,22 @@
-//! The program's call over any source and any sink.
+//! The top call: a session from a source, its answers to a sink.
 
 ghost use Rattle.std.specs.Prelude.{◌≡◌, ◌↔◌, ◌≤◌, map, string_bytes, true, false};
 ghost use Rattle.std.specs.Io.KnownBytes.{Keeps};
 ghost use Rattle.geo_outside.specs.Device.{Rose};
-ghost use Rattle.session_text.specs.FirstSession.{byte_limit};
-ghost use Rattle.carmen_cli.specs.TopCall.{asks_for_plain, EndsAs, IsDecided};
+ghost use Rattle.session_text.specs.declared.session.Kind.TheVariants.{Asks};
+ghost use Rattle.carmen_cli.specs.TopCall.{asks_for_plain, byte_limit, EndsAs, IsDecided};
 
-use crate::respond::answer;
-use crate::transfer::{TakeError, put_all, take_all};
-use geo_outside::device::{Sink, SinkError, Source};
+use crate::running::Running;
+use geo_outside::device::{Sink, Source};
+use session_text::session::Kind;
 use session_text::status::Status;
-use session_text::why::Why;
 use std::alloc::Global;
+
+/// The most bytes that are taken from a source.
+const BYTE_LIMIT: usize = 268_435_456;
+
+/// The most bytes that are asked for at once.
+const BLOCK: usize = 65_536;
 
 /// The words are the one word `plain`.
 fn is_plain(words: &[String]) -> bool
@@ -20,20 +25,21 @@ fn is_plain(words: &[String]) -> bool
     words.len() == 1 && words[0].as_str() == "plain"
 }
 
-/// Reads a session from the source, answers it and writes the answers to the sink, where the words are `plain`. At most
-/// 1,048,576 bytes are taken; nothing taken is given back, and nothing written is undone. What is said of bytes holds
-/// where the source and the sink tell theirs.
+/// Reads a session from the source, answers it and writes the answers to the sink, where the words are `plain`. It goes
+/// round by round: a round is answered once its `join` or `end` line was taken, and its text is written before more is
+/// read; nothing is read behind the `end` line but what came with its block. Nothing taken is given back, and nothing
+/// written is undone. What is said of bytes holds where the source and the sink tell theirs.
 ///
-/// - `Done`: the source has nothing left, what was taken is an accepted session, and what was written is a text of it.
+/// - `Done`: the `end` line was read; what was written is a text of all rounds.
 /// - `Usage`: the words aren't the one word `plain`. Nothing was taken and nothing written, and no call has failed.
-/// - `BadLine` with line 0 and `NotYet`: the source has nothing left, or 1,048,576 bytes were taken, and what was taken
-///   isn't an accepted session. Nothing was written.
-/// - `ReadFault`: a read of this call failed, and the source has counted it. Some bytes may have been taken; nothing was
-///   written.
-/// - `WriteFault`: a write of this call failed, and the sink has counted it. The session was taken; a front of a text of
-///   it was written, and not all of it.
-/// - `Memory`: room was asked for and refused, which no clause says. Some bytes may have been taken; where the whole
-///   session was, a front of a text of it may have been written.
+/// - `BadLine`: this line is the first that is refused, for this reason; what was written is a text of the closed rounds.
+/// - `Unended`: the source has nothing left, and no line is refused or `end`; likewise.
+/// - `TooMuch`: 268,435,456 bytes were taken, and no line of them is refused or `end`; likewise.
+/// - `ReadFault`: a read of this call failed, and the source has counted it; no line taken before is refused or `end`;
+///   likewise.
+/// - `WriteFault`: a write of this call failed, and the sink has counted it; a front of a text of the closed rounds was
+///   written, and not all of it.
+/// - `Memory`: room was asked for and refused, which no clause says; a front of such a text was written.
 ///
 /// Where neither count of faults rose, the words and the bytes of the source alone decide the status, but for `Memory`.
 pub fn carmen<R: AllocGlobal, S: Source, K: Sink>(
@@ -42,7 +48,7 @@ pub fn carmen<R: AllocGlobal, S: Source, K: Sink>(
     source: &mut S,
     sink: &mut K,
 ) -> Status
-    ensures session { EndsAs byte_limit (S.left source.old) (S.left source.new) (K.contents sink.old) (K.contents sink.new) result }
+    ensures session { EndsAs byte_limit Asks (S.left source.old) (S.left source.new) (K.contents sink.old) (K.contents sink.new) result }
     ensures usage { (result ≡ Status.Usage) ↔ (asks_for_plain (map string_bytes words.now) ≡ false) }
     ensures untouched { result ≡ Status.Usage → Keeps (S.left source.old) (S.left source.new) × Keeps (K.contents sink.old) (K.contents sink.new)
         × (S.faults source.new ≡ S.faults source.old) × (K.faults sink.new ≡ K.faults sink.old) }
@@ -50,41 +56,46 @@ pub fn carmen<R: AllocGlobal, S: Source, K: Sink>(
     ensures write_fault { result ≡ Status.WriteFault → Rose (K.faults sink.old) (K.faults sink.new) }
     ensures decided { asks_for_plain (map string_bytes words.now) ≡ true
         → ¬ (Rose (S.faults source.old) (S.faults source.new)) → ¬ (Rose (K.faults sink.old) (K.faults sink.new))
-        → IsDecided byte_limit (S.left source.old) result }
+        → IsDecided byte_limit Asks (S.left source.old) result }
     ensures later { (S.faults source.old ≤ S.faults source.new) × (K.faults sink.old ≤ K.faults sink.new) }
 {
     if !is_plain(words) {
         return Status::Usage;
     }
-    run_plain(rt.alloc(), source, sink)
+    run_plain(rt.alloc(), Kind::Asks, source, sink)
 }
 
-/// Reads a session from the source, answers it and writes the answers to the sink. Each status but `Usage`, which never
-/// comes, means what it means at `carmen`.
-pub fn run_plain<S: Source, K: Sink>(alloc: Global, source: &mut S, sink: &mut K) -> Status
-    ensures session { EndsAs byte_limit (S.left source.old) (S.left source.new) (K.contents sink.old) (K.contents sink.new) result }
+/// Reads a session whose lines may ask as the kind says, answers it and writes the answers to the sink. Each status but
+/// `Usage`, which never comes, means what it means at `carmen`.
+pub fn run_plain<S: Source, K: Sink>(
+    alloc: Global,
+    kind: Kind,
+    source: &mut S,
+    sink: &mut K,
+) -> Status
+    ensures session { EndsAs byte_limit kind (S.left source.old) (S.left source.new) (K.contents sink.old) (K.contents sink.new) result }
     ensures usage { ¬ (result ≡ Status.Usage) }
     ensures read_fault { result ≡ Status.ReadFault → Rose (S.faults source.old) (S.faults source.new) }
     ensures write_fault { result ≡ Status.WriteFault → Rose (K.faults sink.old) (K.faults sink.new) }
     ensures decided { ¬ (Rose (S.faults source.old) (S.faults source.new)) → ¬ (Rose (K.faults sink.old) (K.faults sink.new))
-        → IsDecided byte_limit (S.left source.old) result }
+        → IsDecided byte_limit kind (S.left source.old) result }
     ensures later { (S.faults source.old ≤ S.faults source.new) × (K.faults sink.old ≤ K.faults sink.new) }
 {
-    let taken = match take_all(alloc, source) {
-        Ok(taken) => taken,
-        Err(TakeError::Failed) => return Status::ReadFault,
-        Err(TakeError::Memory) => return Status::Memory,
-    };
-    match answer(alloc, &taken) {
-        Ok(Some(text)) => match put_all(sink, &text) {
-            Ok(()) => Status::Done,
-            Err(SinkError::Failed) => Status::WriteFault,
-            Err(SinkError::Memory) => Status::Memory,
-        },
-        Ok(None) => Status::BadLine {
-            line: 0,
-            why: Why::NotYet,
-        },
-        Err(_) => Status::Memory,
+    let mut running = Running::new(alloc, kind);
+    let mut block = [0u8; BLOCK];
+    let mut taken = 0;
+    while taken < BYTE_LIMIT {
+        let room = BLOCK.min(BYTE_LIMIT - taken);
+        let Ok(n) = source.read(&mut block[..room]) else {
+            return Status::ReadFault;
+        };
+        if n == 0 {
+            return running.end(sink);
+        }
+        if let Some(status) = running.take(&block[..n], sink) {
+            return status;
+        }
+        taken += n;
     }
+    Status::TooMuch
 }

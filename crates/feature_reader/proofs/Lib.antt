@@ -3,7 +3,6 @@ mod Tables
 mod Rows
 mod TileTexts
 pub mod Each
-mod PlainFacts
 mod SimpleFacts
 mod Rising
 mod PhraseFacts

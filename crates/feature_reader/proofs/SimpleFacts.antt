@@ -20,45 +20,12 @@ use Rattle.geo_base.specs.LangCode.{is_code}
 use Rattle.geo_text.proofs.Ascii.{is_ascii-true, is_ascii-false}
 use Rattle.geo_layer.specs.Json.{present}
 use Rattle.feature_reader.specs.Feature.{text_code, own_text, own_texts, properties_of}
-use Rattle.feature_reader.specs.Plain.{is_plain, are_plain, is_plain_name, is_plain_text, has_plain_members}
 use Rattle.feature_reader.specs.Simple.{is_simple, are_simple, is_simple_member, is_simple_text, has_simple_members}
 
 -- each member is simple
 pub simple_members : (ms : List (String Global × Value)) → list_all (λ m. is_simple_member (string_bytes m.0) (present (Some (view m.1)))) ms ≡ has_simple_members (members_view ms)
 simple_members [] = refl
 simple_members (m ∷ ms) = ap (λ b. is_simple_member (string_bytes m.0) (present (Some (view m.1))) && b) (simple_members ms)
-
--- ---- what is plain is simple
-
-plain_tests : (a b c k : Bool) (code : List ℕ) → not (a || (b || c)) ≡ true → not (b || is_some (cond (c && k) (Some code) None)) ≡ true
-plain_tests true b c k code h = cc
-plain_tests false true c k code h = cc
-plain_tests false false true k code h = cc
-plain_tests false false false k code h = refl
-
-plain_member : (name : List ℕ) (d : Option Data) → is_plain_name name ≡ true → is_simple_member name d ≡ true
-plain_member name None h = refl
-plain_member name (Some d) h = plain_tests _ _ _ _ _ h
-
-plain_members : (ms : Members) → has_plain_members ms ≡ true → has_simple_members ms ≡ true
-plain_members no_members h = refl
-plain_members (json.member name d ms) h =
-    let both = and_parts _ _ h in
-    and_from _ _ (plain_member name (present (Some d)) both.0) (plain_members ms both.1)
-
-plain_texts : (text : Option (List ℕ)) → is_plain_text text ≡ true → is_simple_text text ≡ true
-plain_texts None h = refl
-plain_texts (Some text) h = (and_parts _ _ h).0
-
-plain_properties : (ms : Option Members) → are_plain ms ≡ true → are_simple ms ≡ true
-plain_properties None h = refl
-plain_properties (Some ms) h =
-    let both = and_parts _ _ h in
-    and_from _ _ (plain_members ms both.0) (plain_texts (option_and_then as_str (present (get_member (codes "carmen:text") ms))) both.1)
-
--- a plain value is simple
-pub plain_is_simple : (d : Data) → is_plain d ≡ true → is_simple d ≡ true
-plain_is_simple d h = plain_properties (properties_of d) h
 
 -- ---- what a simple value lacks
 

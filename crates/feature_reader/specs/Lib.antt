@@ -4,6 +4,5 @@ pub mod FeatureView
 pub mod Feature
 pub mod Collected
 pub mod Simple
-pub mod Plain
 pub mod Table
 pub mod Examples

@@ -4,7 +4,6 @@
 pub mod feature;
 pub mod laws;
 pub mod phrase;
-pub mod plain;
 pub mod read_feature;
 mod score;
 pub mod simple;

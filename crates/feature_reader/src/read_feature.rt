@@ -219,7 +219,6 @@ pub fn read_feature(
 #[cfg(test)]
 mod tests {
     use super::*;
-    use crate::plain::is_plain;
     use crate::simple::is_simple;
     use geo_text::text::Text;
     use std::test::Fail;
@@ -427,27 +426,22 @@ mod tests {
     }
 
     #[test]
-    fn values_are_plain_or_simple_or_neither(rt: HostRuntime) -> Result<(), Fail> {
+    fn values_are_simple_or_not(rt: HostRuntime) -> Result<(), Fail> {
         let cases = [
-            ("{\"id\":1}", true, true),
-            ("{\"properties\":{\"carmen:text\":\"a b\"}}", true, true),
-            ("{\"properties\":{\"carmen:text\":\"a,b\"}}", false, true),
-            ("{\"properties\":{\"carmen:text\":\"-\"}}", false, true),
-            (
-                "{\"properties\":{\"carmen:text\":\"\u{e9}\"}}",
-                false,
-                false,
-            ),
-            ("{\"properties\":{\"carmen:score\":1}}", false, true),
-            ("{\"properties\":{\"carmen:relev\":null}}", false, true),
-            ("{\"properties\":{\"carmen:relev\":80}}", false, false),
-            ("{\"properties\":{\"carmen:text_d\":\"a\"}}", false, true),
-            ("{\"properties\":{\"carmen:text_de\":null}}", false, true),
-            ("{\"properties\":{\"carmen:text_de\":\"a\"}}", false, false),
+            ("{\"id\":1}", true),
+            ("{\"properties\":{\"carmen:text\":\"a b\"}}", true),
+            ("{\"properties\":{\"carmen:text\":\"a,b\"}}", true),
+            ("{\"properties\":{\"carmen:text\":\"-\"}}", true),
+            ("{\"properties\":{\"carmen:text\":\"\u{e9}\"}}", false),
+            ("{\"properties\":{\"carmen:score\":1}}", true),
+            ("{\"properties\":{\"carmen:relev\":null}}", true),
+            ("{\"properties\":{\"carmen:relev\":80}}", false),
+            ("{\"properties\":{\"carmen:text_d\":\"a\"}}", true),
+            ("{\"properties\":{\"carmen:text_de\":null}}", true),
+            ("{\"properties\":{\"carmen:text_de\":\"a\"}}", false),
         ];
-        for (text, plain, simple) in cases {
+        for (text, simple) in cases {
             let value = value_of(rt.alloc(), text.as_bytes())?.ok_or("no JSON")?;
-            assert_eq!(rt; is_plain(&value), plain, "at {text}");
             assert_eq!(rt; is_simple(&value), simple, "at {text}");
         }
         Ok(())

@@ -1,5 +1,6 @@
+pub mod Advance
 pub mod Ascii
+pub mod Bodies
 pub mod Fronts
-pub mod Lines
-mod LoadFacts
+pub mod LoadFacts
 mod Numbered

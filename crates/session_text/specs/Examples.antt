@@ -1,10 +1,12 @@
 -- Sessions that serve as examples.
-use Rattle.std.specs.Prelude.{ℕ, List, [], ◌∷◌, length, codes, None}
+use Rattle.std.specs.Prelude.{ℕ, true, false, List, [], ◌∷◌, length, codes, None}
 use Rattle.geo_layer.specs.Layer.{LayerView}
 use Rattle.feature_reader.specs.Languages.{all_languages}
 use Rattle.feature_reader.specs.FeatureView.{FeatureView}
 use Rattle.geo_layer.specs.declared.head.Head.{Head}
 use Rattle.session_text.specs.Generations.{Generation}
+use Rattle.session_text.specs.Reading.{Reading, reading, at_end_line}
+use Rattle.session_text.specs.declared.session.Kind.TheVariants.{Asks}
 use Rattle.session_text.specs.declared.body.BodyLine.{BodyLine}
 use Rattle.session_text.specs.declared.body.BodyLine.TheVariants.{Put, Drop, Limit, Publish, Ask}
 
@@ -28,18 +30,6 @@ city_body = Put 0 new_york ∷ Publish ∷ Ask 0 (codes "auto=0 | new york") ∷
 abbrev pub city_without_feed : List ℕ
 city_without_feed = codes "carmen 1\nlayer {\"name\":\"place\",\"zoom\":6}\nput 0 {\"id\":7,\"properties\":{\"carmen:text\":\"New York\",\"carmen:zxy\":[\"6/32/32\",\"6/33/32\"]}}\npublish\nask 0 auto=0 | new york\nask 0 auto=0 | york\nend"
 
--- the same with the line `join` before the first ask
-abbrev pub city_with_join : List ℕ
-city_with_join = codes "carmen 1\nlayer {\"name\":\"place\",\"zoom\":6}\nput 0 {\"id\":7,\"properties\":{\"carmen:text\":\"New York\",\"carmen:zxy\":[\"6/32/32\",\"6/33/32\"]}}\npublish\njoin\nask 0 auto=0 | new york\nask 0 auto=0 | york\nend\n"
-
--- the same with a carriage return before each line feed
-abbrev pub city_with_returns : List ℕ
-city_with_returns = codes "carmen 1\r\nlayer {\"name\":\"place\",\"zoom\":6}\r\nput 0 {\"id\":7,\"properties\":{\"carmen:text\":\"New York\",\"carmen:zxy\":[\"6/32/32\",\"6/33/32\"]}}\r\npublish\r\nask 0 auto=0 | new york\r\nask 0 auto=0 | york\r\nend\r\n"
-
--- the same with a second layer
-abbrev pub city_with_two_layers : List ℕ
-city_with_two_layers = codes "carmen 1\nlayer {\"name\":\"place\",\"zoom\":6}\nlayer {\"name\":\"street\",\"zoom\":6}\nput 0 {\"id\":7,\"properties\":{\"carmen:text\":\"New York\",\"carmen:zxy\":[\"6/32/32\",\"6/33/32\"]}}\npublish\nask 0 auto=0 | new york\nask 0 auto=0 | york\nend\n"
-
 -- the same without its end
 abbrev pub city_without_end : List ℕ
 city_without_end = codes "carmen 1\nlayer {\"name\":\"place\",\"zoom\":6}\nput 0 {\"id\":7,\"properties\":{\"carmen:text\":\"New York\",\"carmen:zxy\":[\"6/32/32\",\"6/33/32\"]}}\npublish\nask 0 auto=0 | new york\nask 0 auto=0 | york\n"
@@ -55,3 +45,19 @@ city_published_and_dropped = Put 0 new_york ∷ Publish ∷ Limit 5 ∷ Drop 0 7
 -- the number of a generation, its limit, and how many features it has
 abbrev pub in_short : Generation → ℕ × ℕ × ℕ
 in_short g = (g.number, g.limit, length g.table)
+
+-- a comment, an empty line, and a drop in a layer that isn't there
+abbrev pub bad_drop : List ℕ
+bad_drop = codes "carmen 1\r\nlayer {\"name\":\"place\",\"zoom\":6}\n# places\n\ndrop 3 9\n"
+
+-- the reading of these bytes, after which the source ends
+abbrev pub read_whole : List ℕ → Reading
+read_whole bytes = reading 0 Asks true bytes
+
+-- the reading of these bytes, after which more may follow
+abbrev pub read_open : List ℕ → Reading
+read_open bytes = reading 0 Asks false bytes
+
+-- a session of one layer and one round, read to its end
+abbrev pub ended_with : List BodyLine → Reading
+ended_with lines = record { head = one_layer; rounds = lines ∷ []; ending = at_end_line }

@@ -1,5 +1,5 @@
 -- What the lines of a session build: the features, the grid limit, and the generations.
-use Rattle.std.specs.Prelude.{ℕ, ◌+◌, List, [], ◌∷◌, fold}
+use Rattle.std.specs.Prelude.{ℕ, ◌+◌, List, [], ◌∷◌}
 use Rattle.geo_layer.specs.declared.head.Head.{Head}
 use Rattle.feature_reader.specs.Table.{Table, put, without}
 use Rattle.session_text.specs.declared.body.BodyLine.{BodyLine}

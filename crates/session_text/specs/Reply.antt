@@ -1,5 +1,5 @@
 -- Replies and the lines of a session's output, as text.
-use Rattle.std.specs.Prelude.{ℕ, ◌*◌, List, ◌++◌, length, codes, decimal, flat_map, sum_by, Result, Ok, Err}
+use Rattle.std.specs.Prelude.{ℕ, ◌*◌, Bool, List, ◌++◌, length, codes, decimal, flat_map, sum_by, if◌then◌else◌, Result, Ok, Err}
 use Rattle.geo_base.specs.TileView.{TileView}
 use Rattle.geo_base.specs.declared.link.Link.{Link}
 use Rattle.geo_base.specs.Order.{target_score}
@@ -61,3 +61,11 @@ put_text layer id answer = codes "put " ++ decimal layer ++ codes " " ++ decimal
 -- the text of a publication: its number
 abbrev pub published_text : ℕ → List ℕ
 published_text number = codes "published " ++ decimal number ++ codes "\n"
+
+-- the text of a drop: the layer, the id, and whether the feature stood there
+abbrev pub drop_text : ℕ → ℕ → Bool → List ℕ
+drop_text layer id gone = codes "drop " ++ decimal layer ++ codes " " ++ decimal id ++ (if gone then codes " gone\n" else codes " none\n")
+
+-- the text of a limit
+abbrev pub limit_text : ℕ → List ℕ
+limit_text n = codes "limit " ++ decimal n ++ codes "\n"

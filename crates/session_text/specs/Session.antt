@@ -1,5 +1,5 @@
 -- The grammar of a session: what each line says at its place, or its first fault.
-use Rattle.std.specs.Prelude.{◌≡◌, ℕ, ◌<◌, ◌≤◌, ⊤, Bool, true, false, List, [], ◌∷◌, ◌++◌, ◌&&◌, ◌==◌, not, nat_lt, nat_le, length, take, drop, codes, bytes_eq, count_by, slice_get, if◌then◌else◌, Option, Some, None, Result, Ok, Err, ok_or}
+use Rattle.std.specs.Prelude.{◌≡◌, ℕ, ◌<◌, ◌≤◌, ⊤, Bool, true, false, List, [], ◌∷◌, ◌++◌, ◌&&◌, ◌==◌, not, nat_lt, nat_le, length, take, drop, codes, bytes_eq, count_by, slice_get, if◌then◌else◌, All, IfSome, IsSome, IsAscii, Option, Some, None, Result, Ok, Err, ok_or}
 use Rattle.std.specs.List.{list_all, list_any}
 use Rattle.std.specs.Str.{is_utf8}
 use Rattle.serde_json.specs.Data.{Data}
@@ -39,6 +39,10 @@ pub record SessionView : Type 0 where
   pub named : List ℕ
   pub feeds : ℕ
   pub kind : Kind
+
+-- a session before its first line, to which so many feeds are handed
+abbrev pub start : ℕ → Kind → SessionView
+start feeds kind = record { stage = at.BeforeHead; head = record { langs = []; layers = [] }; round = []; named = []; feeds = feeds; kind = kind }
 
 -- ---- tests and fields
 
@@ -269,3 +273,12 @@ Fits session Title = ⊤
 Fits session (Langs codes) = ⊤
 Fits session Join = ⊤
 Fits session End = ⊤
+
+-- what each line of the body keeps: the layer of a put is one of the head, and the tiles of its feature have its zoom; the lane of an ask is below 8, and its text is ASCII
+abbrev pub IsLineOf : Head → BodyLine → Type 0
+IsLineOf head (Put layer f) = IsSome (slice_get head.layers layer) × IfSome (slice_get head.layers layer) (λ l. All (λ t. t.z ≡ l.zoom) f.tiles)
+IsLineOf head (Ask lane text) = (lane < 8) × IsAscii text
+IsLineOf head (Drop layer id) = ⊤
+IsLineOf head (Load feed layer) = ⊤
+IsLineOf head (Limit n) = ⊤
+IsLineOf head Publish = ⊤

@@ -7,7 +7,7 @@ use Rattle.feature_reader.specs.declared.feature.FeatureFault.TheVariants as fea
 use Rattle.session_text.specs.declared.why.Why.{Why}
 use Rattle.session_text.specs.declared.why.Why.TheVariants.{Long, Utf8, Head, Word, Form, Lang, Layer, Number, Feed, Feature, Asks, NotYet}
 use Rattle.session_text.specs.declared.status.Status.{Status}
-use Rattle.session_text.specs.declared.status.Status.TheVariants.{Done, Usage, BadLine, ReadFault, WriteFault, Memory}
+use Rattle.session_text.specs.declared.status.Status.TheVariants.{Done, Usage, BadLine, Unended, TooMuch, ReadFault, WriteFault, Memory}
 
 -- the number and the name of a layer's fault
 abbrev pub layer_fault_text : LayerFault → List ℕ
@@ -50,6 +50,8 @@ abbrev pub number_of : Status → ℕ
 number_of Done = 0
 number_of Usage = 1
 number_of (BadLine line why) = 2
+number_of Unended = 3
+number_of TooMuch = 4
 number_of ReadFault = 5
 number_of WriteFault = 6
 number_of Memory = 7
@@ -59,6 +61,8 @@ abbrev pub status_text : Status → List ℕ
 status_text Done = []
 status_text Usage = codes "carmen: usage"
 status_text (BadLine line why) = codes "carmen: line " ++ decimal line ++ codes ": " ++ why_text why
+status_text Unended = codes "carmen: no end line"
+status_text TooMuch = codes "carmen: too much input"
 status_text ReadFault = codes "carmen: read fault"
 status_text WriteFault = codes "carmen: write fault"
 status_text Memory = codes "carmen: out of memory"

@@ -5,7 +5,7 @@ ghost use Rattle.std.specs.List.{list_any, starts_with};
 ghost use Rattle.geo_text.specs.Words.{words_of};
 ghost use Rattle.geo_base.specs.declared.refusal.Refused.TheVariants as refused;
 ghost use Rattle.geo_query.specs.Query.{asks_language};
-ghost use Rattle.session_text.specs.Session.{put_line, drop_line, load_line, limit_line, ask_line, bare_line, is_asking};
+ghost use Rattle.session_text.specs.Session.{put_line, drop_line, limit_line, ask_line, bare_line, is_asking};
 ghost use Rattle.session_text.specs.declared.body.BodyLine.{BodyLine};
 ghost use Rattle.session_text.specs.declared.why.Why.{Why};
 

@@ -3,13 +3,10 @@
 
 pub mod body;
 mod body_line;
-mod bytes;
 mod fields;
-pub mod first;
 mod head_line;
 pub mod item;
 pub mod laws;
-mod layer_line;
 pub mod session;
 pub mod status;
 #[cfg(test)]

@@ -1,9 +1,9 @@
 //! A session, line by line.
 
-ghost use Rattle.std.specs.Prelude.{◌≡◌, ◌≢◌, ◌↔◌, ◌==◌, IsTrue, [], ◌∷◌, Ok, Err, IfOk, OnOk, OnErr, MatchOption, length};
+ghost use Rattle.std.specs.Prelude.{◌≡◌, ◌≢◌, ◌↔◌, ◌==◌, IsTrue, [], ◌∷◌, Ok, Err, IfOk, OnOk, OnErr, MatchOption};
 ghost use Rattle.std.specs.List.{list_any};
 ghost use Rattle.geo_base.specs.declared.refusal.Refused.TheVariants as refused;
-ghost use Rattle.session_text.specs.Session.{SessionView, body_line, head_line, staged_line, line_at, after_item, step_of, spent, load_line, is_asking, named_by, Fits};
+ghost use Rattle.session_text.specs.Session.{SessionView, start, body_line, head_line, line_at, after_item, step_of, spent, load_line, is_asking, named_by, Fits};
 ghost use Rattle.session_text.specs.declared.item.Item.{Item};
 ghost use Rattle.session_text.specs.declared.item.Item.TheVariants.{Body};
 ghost use Rattle.session_text.specs.declared.session.Stage.TheVariants as at;
@@ -90,7 +90,7 @@ impl Model for Session {
 impl Session {
     /// A session before its first line, to which so many feeds are handed.
     pub fn new(alloc: Global, feeds: u32, kind: Kind) -> Session
-        ensures { result ≡ record { stage = at.BeforeHead; head = record { langs = []; layers = [] }; round = []; named = []; feeds = feeds; kind = kind } }
+        ensures { result ≡ start feeds kind }
     {
         Session {
             stage: Stage::BeforeHead,

@@ -14,12 +14,16 @@ use itoa::Buffer;
 /// How a session ends.
 #[derive(Clone, Copy, Debug, PartialEq, Eq)]
 pub enum Status {
-    /// The bytes are a whole session, and all answers are written.
+    /// The `end` line was read, and all answers are written.
     Done,
     /// The words of the command line aren't understood.
     Usage,
-    /// This line, counted from 1, is refused; line 0 stands for the session as a whole.
+    /// This line, counted from 1, is the first that is refused.
     BadLine { line: u64, why: Why },
+    /// The bytes ended before an `end` line.
+    Unended,
+    /// As many bytes as a session may have were read, and no line of them is refused or `end`.
+    TooMuch,
     /// A read failed.
     ReadFault,
     /// A write failed.
@@ -29,8 +33,8 @@ pub enum Status {
 }
 
 impl Status {
-    /// The exit status of the process: 0 for `Done`, 1 for `Usage`, 2 for `BadLine`, 5 for `ReadFault`,
-    /// 6 for `WriteFault` and 7 for `Memory`.
+    /// The exit status of the process: 0 for `Done`, 1 for `Usage`, 2 for `BadLine`, 3 for `Unended`,
+    /// 4 for `TooMuch`, 5 for `ReadFault`, 6 for `WriteFault` and 7 for `Memory`.
     pub fn number(&self) -> u8
         ensures { result ≡ number_of self.now }
     {
@@ -38,6 +42,8 @@ impl Status {
             Status::Done => 0,
             Status::Usage => 1,
             Status::BadLine { .. } => 2,
+            Status::Unended => 3,
+            Status::TooMuch => 4,
             Status::ReadFault => 5,
             Status::WriteFault => 6,
             Status::Memory => 7,
@@ -54,6 +60,8 @@ pub fn status_text(s: &Status) -> ArrayString<128>
         Status::Done => {}
         Status::Usage => text.push_str("carmen: usage"),
         Status::BadLine { line, why } => return bad_line(*line, *why),
+        Status::Unended => text.push_str("carmen: no end line"),
+        Status::TooMuch => text.push_str("carmen: too much input"),
         Status::ReadFault => text.push_str("carmen: read fault"),
         Status::WriteFault => text.push_str("carmen: write fault"),
         Status::Memory => text.push_str("carmen: out of memory"),
@@ -139,6 +147,8 @@ mod tests {
             (Status::Done, 0, ""),
             (Status::Usage, 1, "carmen: usage"),
             (bad_line, 2, "carmen: line 18446744073709551615: 12 NotYet"),
+            (Status::Unended, 3, "carmen: no end line"),
+            (Status::TooMuch, 4, "carmen: too much input"),
             (Status::ReadFault, 5, "carmen: read fault"),
             (Status::WriteFault, 6, "carmen: write fault"),
             (Status::Memory, 7, "carmen: out of memory"),

@@ -1,9 +1,9 @@
 //! The text of each answer. Each call appends to what stands in `out`; after want of memory that is still the front.
 
-ghost use Rattle.std.specs.Prelude.{◌≡◌, ◌≤◌, ◌*◌, ◌++◌, length, codes, decimal, flat_map, sum_by, OnOk, OnErr};
+ghost use Rattle.std.specs.Prelude.{◌≡◌, ◌≤◌, ◌*◌, ◌++◌, length, decimal, flat_map, sum_by, OnOk, OnErr};
 ghost use Rattle.std.specs.Io.{StartsWith};
 ghost use Rattle.geo_base.specs.Order.{target_score};
-ghost use Rattle.session_text.specs.Reply.{tile_text, link_text, context_text, fault_text, answer_text, reply_text, taken_word, put_text, published_text};
+ghost use Rattle.session_text.specs.Reply.{tile_text, link_text, context_text, fault_text, answer_text, reply_text, taken_word, put_text, published_text, drop_text, limit_text};
 ghost use Rattle.geo_query.specs.declared.reply.Reply.TheVariants.{Unreadable, Grids};
 
 use feature_reader::taker::{PutFault, Taken};
@@ -227,6 +227,27 @@ pub fn write_put(
     Ok(())
 }
 
+/// Appends the text of a drop: its layer, the id, and whether the feature stood there.
+pub fn write_drop(out: &mut Vec<u8>, layer: u8, id: u32, gone: bool) -> Result<(), Memory>
+    ensures ok { OnOk result (out.new.items ≡ out.old.items ++ drop_text layer id gone) }
+    ensures err { OnErr result (StartsWith out.new.items out.old.items) }
+{
+    push_number(out, b"drop ", u64::from(layer))?;
+    push_number(out, b" ", u64::from(id))?;
+    push(out, if gone { b" gone\n" } else { b" none\n" })?;
+    Ok(())
+}
+
+/// Appends the text of a limit.
+pub fn write_limit(out: &mut Vec<u8>, n: u64) -> Result<(), Memory>
+    ensures ok { OnOk result (out.new.items ≡ out.old.items ++ limit_text n) }
+    ensures err { OnErr result (StartsWith out.new.items out.old.items) }
+{
+    push_number(out, b"limit ", n)?;
+    push(out, b"\n")?;
+    Ok(())
+}
+
 /// Appends the text of a publication, which is its number.
 pub fn write_published(out: &mut Vec<u8>, k: u32) -> Result<(), Memory>
     ensures ok { OnOk result (out.new.items ≡ out.old.items ++ published_text k) }
@@ -283,16 +304,26 @@ mod tests {
         write_put(&mut out, 1, 8, &Ok(Taken::Changed))?;
         write_put(&mut out, 2, 67_108_863, &Err(PutFault::TooManyFeatures))?;
         write_put(&mut out, 15, 0, &Err(PutFault::TooManyRows))?;
+        write_drop(&mut out, 0, 7, true)?;
+        write_drop(&mut out, 15, 67_108_863, false)?;
+        write_limit(&mut out, 8_388_608)?;
         write_published(&mut out, 4)?;
         write_reply(&mut out, 3, 5, &reply)?;
         write_reply(&mut out, 3, 6, &Reply::Unreadable(QueryFault::Empty))?;
+        let grids = Reply::Grids {
+            generation: 4,
+            total: 11,
+            limit: 10,
+        };
+        write_reply(&mut out, 3, 7, &grids)?;
+        write_reply(&mut out, 3, 8, &Reply::Memory)?;
         Ok(out)
     }
 
     #[test]
     fn an_answer_has_a_line_for_each_context(rt: HostRuntime) {
         let text =
-            "put 0 7 new\nput 1 8 changed\nput 2 67108863 features\nput 15 0 rows\npublished 4\nask 3 5 gen 4 found 2\ncontext 20000/20000 score 9 0:7@6/32/32[0,2)=20000\ncontext 9600/20000 score 0 15:67108863@16/65535/0[1,2)=9600\nask 3 6 unreadable 4 Empty\n";
+            "put 0 7 new\nput 1 8 changed\nput 2 67108863 features\nput 15 0 rows\ndrop 0 7 gone\ndrop 15 67108863 none\nlimit 8388608\npublished 4\nask 3 5 gen 4 found 2\ncontext 20000/20000 score 9 0:7@6/32/32[0,2)=20000\ncontext 9600/20000 score 0 15:67108863@16/65535/0[1,2)=9600\nask 3 6 unreadable 4 Empty\nask 3 7 gen 4 grids 11 10\nask 3 8 memory\n";
         match two_contexts(rt.alloc()) {
             Ok(out) => assert!(rt; out.as_slice() == text.as_bytes()),
             Err(_) => panic!(rt; "out of memory"),

@@ -1,51 +1,122 @@
-use Rattle.std.proofs.Common.{◌∙◌, sym, ap, subst}
-use Rattle.std.specs.Io.KnownBytes.{Appends}
-use Rattle.std.proofs.KnownBytes.{Appends-nil}
-use Rattle.session_text.specs.FirstSession.{session_of}
-use Rattle.session_text.specs.declared.why.Why.TheVariants.{NotYet}
-use Rattle.session_text.specs.declared.status.Status.TheVariants.{Done, BadLine, WriteFault, Memory}
-use Rattle.carmen_cli.specs.Reading.{whole_reading}
-use Rattle.carmen_cli.proofs.Outcome.{all_taken, nothing_yet, cut_short, given_up, finished, refused, decided}
+use Rattle.std.proofs.Common.{◌≡◌, ◌∙◌, ◌<◌, ◌≤◌, ◌+◌, ◌++◌, ◌-◌, ℕ, List, [], length, take, drop, Some, refl, sym, ap, subst, arith, rules}
+use Rattle.std.proofs.lemmas.Grind.{common_steps}
+use Rattle.std.proofs.lemmas.List.{length-append}
+use Rattle.std.specs.Io.KnownBytes.{Consumes, Appends}
+use Rattle.std.proofs.KnownBytes.{Consumes-trans, Consumes-kept, Appends-nil, Appends-trans, Consumes-nil}
+use Rattle.session_text.specs.declared.status.Status.TheVariants as status
+use Rattle.carmen_cli.specs.TopCall.{byte_limit}
+use Rattle.carmen_cli.proofs.Outcome.{stopped, at_its_end, failed, full, decided_within, decided_at_end, decided_full, not_usage, not_read_fault, took_none, took_some, count_block, count_some, rose_earlier}
 use Rattle.carmen_cli.proofs.top.run_plain.Goals as goal
 
-pub returns-in-Err-Failed-put_all-clause-session : goal.returns-in-Err-Failed-put_all-clause-session
-returns-in-Err-Failed-put_all-clause-session g c =
-    let is = rw c.in-Ok-Some.field-0-is at c.in-Ok-Some.ensures in
-    let part = c.in-Err-Failed-put_all.ensures.part in
-    let same = ap session_of (sym c.deref.ensures.value) ∙ is.2 in
-    all_taken _ _ _ _ _ _ _ WriteFault c.in-Ok.ensures.taken c.in-Ok.ensures.within c.in-Ok.ensures.all part.4
-    (cut_short _ _ _ _ _ _ same is.3 (sym c.deref-in-Ok-Some.ensures.value ∙ part.2) part.3)
+pub loop-taken-init : goal.loop-taken-init
+loop-taken-init g c = record {
+  moved = ([], [], Consumes-nil _, Appends-nil _, refl, c.new-running.ensures.at);
+  fits = c.new-running.ensures.fits;
+  line = search (rules, arith);
+  within = search (rules, arith);
+  read_later = search rules;
+  write_later = search rules;
+}
 
-pub returns-in-Ok-Some-clause-session : goal.returns-in-Ok-Some-clause-session
-returns-in-Ok-Some-clause-session g c =
-    let is = rw c.in-Ok-Some.field-0-is at c.in-Ok-Some.ensures in
-    let part = c.in-Err-Memory-put_all.ensures.part in
-    let same = ap session_of (sym c.deref.ensures.value) ∙ is.2 in
-    all_taken _ _ _ _ _ _ _ Memory c.in-Ok.ensures.taken c.in-Ok.ensures.within c.in-Ok.ensures.all part.4
-    (given_up _ _ _ _ _ _ same is.3 (sym c.deref-in-Ok-Some.ensures.value ∙ part.2))
+pub returns-in_default-clause-session : goal.returns-in_default-clause-session
+returns-in_default-clause-session g c =
+    let inv = c.loop-taken.invariant in
+    let m = inv.moved in
+    let within : length m.0 ≤ byte_limit = omega (arith, m.4, inv.within) in
+    failed _ _ _ _ _ _ m.0 m.1 c.loop-taken.running (Consumes-kept _ _ _ _ m.2 (search rules)) m.3 within m.5 inv.fits
 
-pub returns-in-Ok-None-clause-session : goal.returns-in-Ok-None-clause-session
-returns-in-Ok-None-clause-session g c =
-    let is = rw c.in-Ok-None.field-0-is at c.in-Ok-None.ensures in
-    all_taken _ _ _ _ _ _ _ (BadLine 0 NotYet) c.in-Ok.ensures.taken c.in-Ok.ensures.within c.in-Ok.ensures.all (Appends-nil _)
-    (refused _ (ap session_of (sym c.deref.ensures.value) ∙ is))
+pub returns-then-n-eq0-clause-session : goal.returns-then-n-eq0-clause-session
+returns-then-n-eq0-clause-session g c =
+    let inv = c.loop-taken.invariant in
+    let m = inv.moved in
+    let says = c.end.ensures.says c.args.kind m.0 m.1 m.5 in
+    let short : length m.0 < byte_limit = omega (arith, m.4, c.loop-taken-test.true) in
+    let zero : c.in-Ok.n ≡ 0 = search (rules, arith) in
+    let room : 0 < length c.read.new.buf = search (rules, arith) in
+    let none = subst (λ n. Consumes (g.S.Source.left c.loop-taken.source) (g.S.Source.left c.read.new.self) (take n c.read.new.buf)) zero c.in-Ok.ensures.bytes.0 in
+    at_its_end _ _ _ _ _ _ m.0 (m.1 ++ says.0) c.end.result (took_none _ _ _ m.0 m.2 none) (Appends-trans _ _ _ _ _ m.3 says.1) short (c.in-Ok.ensures.bytes.1 zero room) says.2
+
+pub returns-then-n-eq0-clause-decided : goal.returns-then-n-eq0-clause-decided
+returns-then-n-eq0-clause-decided g c =
+    let inv = c.loop-taken.invariant in
+    let m = inv.moved in
+    let says = c.end.ensures.says c.args.kind m.0 m.1 m.5 in
+    let short : length m.0 < byte_limit = omega (arith, m.4, c.loop-taken-test.true) in
+    let zero : c.in-Ok.n ≡ 0 = search (rules, arith) in
+    let room : 0 < length c.read.new.buf = search (rules, arith) in
+    let none = subst (λ n. Consumes (g.S.Source.left c.loop-taken.source) (g.S.Source.left c.read.new.self) (take n c.read.new.buf)) zero c.in-Ok.ensures.bytes.0 in
+    λ no_read no_write. decided_at_end _ _ _ _ m.0 (m.1 ++ says.0) c.end.result (took_none _ _ _ m.0 m.2 none) short (c.in-Ok.ensures.bytes.1 zero room) says.2
+    (λ is. no_write (rose_earlier _ _ _ inv.write_later (c.end.ensures.cause is)))
+
+pub returns-in-Some-clause-session : goal.returns-in-Some-clause-session
+returns-in-Some-clause-session g c =
+    let inv = c.loop-taken.invariant in
+    let m = inv.moved in
+    let rest = drop c.min-room.result c.loop-taken.block in
+    let goes = c.in-Some.ensures.goes c.args.kind m.0 m.1 m.5 in
+    let few : c.in-Ok.n ≤ length c.read.new.buf = search (rules, arith) in
+    let room : length c.read.new.buf ≤ byte_limit - c.loop-taken.taken = search (rules, arith) in
+    let count = count_some m.0 c.read.new.buf rest c.in-Ok.n few in
+    let within : length (m.0 ++ take c.in-Ok.n (c.read.new.buf ++ rest)) ≤ byte_limit = omega (arith, count, m.4, inv.within, few, room) in
+    stopped _ _ _ _ _ _ (m.0 ++ take c.in-Ok.n (c.read.new.buf ++ rest)) (m.1 ++ goes.0) c.in-Some.status (took_some _ _ _ m.0 c.read.new.buf rest c.in-Ok.n few m.2 c.in-Ok.ensures.bytes.0) (Appends-trans _ _ _ _ _ m.3 goes.1) within goes.2
+
+pub returns-in-Some-clause-usage : goal.returns-in-Some-clause-usage
+returns-in-Some-clause-usage g c =
+    let m = c.loop-taken.invariant.moved in
+    let rest = drop c.min-room.result c.loop-taken.block in
+    let goes = c.in-Some.ensures.goes c.args.kind m.0 m.1 m.5 in
+    not_usage c.args.kind (m.0 ++ take c.in-Ok.n (c.read.new.buf ++ rest)) (m.1 ++ goes.0) c.in-Some.status goes.2
+
+pub returns-in-Some-clause-read_fault : goal.returns-in-Some-clause-read_fault
+returns-in-Some-clause-read_fault g c =
+    let m = c.loop-taken.invariant.moved in
+    let rest = drop c.min-room.result c.loop-taken.block in
+    let goes = c.in-Some.ensures.goes c.args.kind m.0 m.1 m.5 in
+    λ is. absurd (not_read_fault c.args.kind (m.0 ++ take c.in-Ok.n (c.read.new.buf ++ rest)) (m.1 ++ goes.0) c.in-Some.status goes.2 is)
+
+pub returns-in-Some-clause-decided : goal.returns-in-Some-clause-decided
+returns-in-Some-clause-decided g c =
+    let inv = c.loop-taken.invariant in
+    let m = inv.moved in
+    let rest = drop c.min-room.result c.loop-taken.block in
+    let goes = c.in-Some.ensures.goes c.args.kind m.0 m.1 m.5 in
+    let few : c.in-Ok.n ≤ length c.read.new.buf = search (rules, arith) in
+    let room : length c.read.new.buf ≤ byte_limit - c.loop-taken.taken = search (rules, arith) in
+    let count = count_some m.0 c.read.new.buf rest c.in-Ok.n few in
+    let within : length (m.0 ++ take c.in-Ok.n (c.read.new.buf ++ rest)) ≤ byte_limit = omega (arith, count, m.4, inv.within, few, room) in
+    λ no_read no_write. decided_within _ _ _ _ (m.0 ++ take c.in-Ok.n (c.read.new.buf ++ rest)) (m.1 ++ goes.0) c.in-Some.status (took_some _ _ _ m.0 c.read.new.buf rest c.in-Ok.n few m.2 c.in-Ok.ensures.bytes.0) within goes.2
+    (λ is. no_write (rose_earlier _ _ _ inv.write_later (c.in-Some.ensures.cause (ap Some is))))
+
+pub loop-taken-preserved : goal.loop-taken-preserved
+loop-taken-preserved g c =
+    let inv = c.loop-taken.invariant in
+    let m = inv.moved in
+    let rest = drop c.min-room.result c.loop-taken.block in
+    let goes = c.in_default-take.ensures.goes c.args.kind m.0 m.1 m.5 in
+    let few : c.in-Ok.n ≤ length c.read.new.buf = search (rules, arith) in
+    let room : length c.read.new.buf ≤ byte_limit - c.loop-taken.taken = search (rules, arith) in
+    let count = count_some m.0 c.read.new.buf rest c.in-Ok.n few in
+    let block : length (take c.in-Ok.n (c.read.new.buf ++ rest)) ≡ c.in-Ok.n = count_block c.read.new.buf rest c.in-Ok.n few in
+    let number = c.in_default-take.ensures.number refl in
+    record {
+      moved = (m.0 ++ take c.in-Ok.n (c.read.new.buf ++ rest), m.1 ++ goes.0, took_some _ _ _ m.0 c.read.new.buf rest c.in-Ok.n few m.2 c.in-Ok.ensures.bytes.0, Appends-trans _ _ _ _ _ m.3 goes.1, count ∙ ap (λ k. k + c.in-Ok.n) m.4, goes.2);
+      fits = c.in_default-take.ensures.fits refl;
+      line = omega (arith, number, block, inv.line);
+      within = omega (arith, few, room, inv.within);
+      read_later = search (rules, arith);
+      write_later = search (rules, arith);
+    }
 
 pub returns-clause-session : goal.returns-clause-session
 returns-clause-session g c =
-    all_taken _ _ _ _ _ _ _ Memory c.in-Ok.ensures.taken c.in-Ok.ensures.within c.in-Ok.ensures.all (Appends-nil _) (nothing_yet (whole_reading (session_of c.in-Ok.taken.items)))
+    let inv = c.loop-taken.invariant in
+    let m = inv.moved in
+    let count : length m.0 ≡ byte_limit = omega (arith, m.4, inv.within, c.loop-taken-test.false) in
+    full _ _ _ _ _ _ m.0 m.1 c.loop-taken.running m.2 m.3 count m.5 inv.fits
 
-pub returns-in-Ok-None-clause-decided : goal.returns-in-Ok-None-clause-decided
-returns-in-Ok-None-clause-decided g c =
-    λ no_read no_write. decided _ _ _ _ _ _ (returns-in-Ok-None-clause-session g c) (λ e. absurd (cc e)) (λ e. absurd (cc e)) (λ e. absurd (cc e))
-
-pub returns-in-Ok-put_all-clause-session : goal.returns-in-Ok-put_all-clause-session
-returns-in-Ok-put_all-clause-session g c =
-    let is = rw c.in-Ok-Some.field-0-is at c.in-Ok-Some.ensures in
-    let wrote = subst (Appends (g.K.Sink.contents c.args.sink.now) (g.K.Sink.contents c.put_all.new.sink)) c.deref-in-Ok-Some.ensures.value c.in-Ok-put_all.ensures.all in
-    let same = ap session_of (sym c.deref.ensures.value) ∙ is.2 in
-    all_taken _ _ _ _ _ _ _ Done c.in-Ok.ensures.taken c.in-Ok.ensures.within c.in-Ok.ensures.all wrote
-    (finished _ _ _ _ same is.3)
-
-pub returns-in-Ok-put_all-clause-decided : goal.returns-in-Ok-put_all-clause-decided
-returns-in-Ok-put_all-clause-decided g c =
-    λ no_read no_write. decided _ _ _ _ _ _ (returns-in-Ok-put_all-clause-session g c) (λ e. absurd (cc e)) (λ e. absurd (cc e)) (λ e. absurd (cc e))
+pub returns-clause-decided : goal.returns-clause-decided
+returns-clause-decided g c =
+    let inv = c.loop-taken.invariant in
+    let m = inv.moved in
+    let count : length m.0 ≡ byte_limit = omega (arith, m.4, inv.within, c.loop-taken-test.false) in
+    λ no_read no_write. decided_full _ _ _ _ m.0 m.1 c.loop-taken.running m.2 count m.5 inv.fits

@@ -1,0 +1,265 @@
+-- What the lines of a session's body keep.
+use Rattle.std.proofs.Common.{◌≡◌, ◌==◌, ◌&&◌, ℕ, ◌+◌, Bool, true, false, nat_lt, nat_le, not, List, [], ◌∷◌, length, Option, None, Some, Result, Ok, Err, refl, sym, subst, ltb-true}
+use Rattle.std.specs.Prelude.{⊤, codes, bytes_eq, count_by, ok_or, if◌then◌else◌, slice_get, take, drop, IfSome, IsSome}
+use Rattle.std.specs.List.{list_all, list_any}
+use Rattle.std.specs.Str.{is_utf8}
+use Rattle.std.proofs.lemmas.Bool.{and_parts}
+use Rattle.geo_text.specs.Numbers.{number_of}
+use Rattle.geo_text.specs.Tokens.{is_ascii}
+use Rattle.geo_text.specs.Words.{words_of, first_word, after_word}
+use Rattle.geo_text.proofs.Ascii.{is_ascii-all}
+use Rattle.geo_layer.specs.Json.{data_of}
+use Rattle.geo_layer.specs.Langs.{langs_of}
+use Rattle.geo_layer.specs.LayerText.{layer_of, is_simple}
+use Rattle.geo_layer.specs.declared.head.Head.{Head}
+use Rattle.geo_query.specs.Query.{asks_language}
+use Rattle.feature_reader.specs.Feature.{feature_of_data, feature_of}
+use Rattle.feature_reader.specs.Simple as feature
+use Rattle.feature_reader.specs.declared.feature.FeatureFault.{FeatureFault}
+use Rattle.feature_reader.specs.declared.feature.FeatureFault.TheVariants as fault
+use Rattle.feature_reader.proofs.Zooms.{AtZoom, bind_ok, check_ok, feature_zoom}
+use Rattle.session_text.specs.Lines.{longest, line_text, is_skipped, next_field}
+use Rattle.session_text.specs.Session.{SessionView, wanted, supported, one_number, two_numbers, are_simple, of_layer, of_feature, title_line, langs_line, layer_line, put_line, drop_line, load_line, limit_line, is_asking, ask_line, bare_line, word_of, line_of_word, body_line, head_line, already, staged_line, line_at, after_item, step_of, IsLineOf}
+use Rattle.session_text.specs.Reading.{reading_after, reading_from, after_step}
+use Rattle.session_text.specs.declared.body.BodyLine.{BodyLine}
+use Rattle.session_text.specs.declared.body.BodyLine.TheVariants.{Put, Drop, Load, Limit, Publish, Ask}
+use Rattle.session_text.specs.declared.item.Item.{Item}
+use Rattle.session_text.specs.declared.item.Item.TheVariants.{Skipped, Title, Langs, Layer, Body, Join, End}
+use Rattle.session_text.specs.declared.item.Word.{Word}
+use Rattle.session_text.specs.declared.item.Word.TheVariants as word
+use Rattle.session_text.specs.declared.session.Stage.{Stage}
+use Rattle.session_text.specs.declared.session.Stage.TheVariants as at
+use Rattle.session_text.specs.declared.session.Step.TheVariants.{Ready, Last}
+use Rattle.session_text.specs.declared.why.Why.{Why}
+use Rattle.session_text.specs.declared.why.Why.TheVariants as why
+use Rattle.session_text.proofs.Ascii.{after-ascii, skipped-ascii}
+
+-- ---- steps that gave something
+
+there_ok : {A E : Type 0} (o : Option A) (x : A) (fault : E) → ok_or o fault ≡ Ok x → o ≡ Some x
+there_ok None x fault e = absurd (cc e)
+there_ok (Some y) x fault e = let same : y ≡ x = cc e in rw same refl
+
+feature_ok : {A : Type 0} (r : Result A FeatureFault) (x : A) → of_feature r ≡ Ok x → r ≡ Ok x
+feature_ok (Ok y) x e = let same : y ≡ x = cc e in rw same refl
+feature_ok (Err fault) x e = absurd (cc e)
+
+-- ---- what the lines of the body say
+
+-- such a line is skipped, a line of the body that keeps what its head asks for, or the end of a round
+abbrev OfBody : Head → Item → Type 0
+OfBody head Skipped = ⊤
+OfBody head Title = ⊥
+OfBody head (Langs codes) = ⊥
+OfBody head (Layer layer) = ⊥
+OfBody head (Body said) = IsLineOf head said
+OfBody head Join = ⊤
+OfBody head End = ⊤
+
+put_fits : (head : Head) (text : List ℕ) (item : Item) → put_line head text ≡ Ok item → OfBody head item
+put_fits head text item e =
+    let (n, is_n, e₁) = bind_ok (ok_or (number_of (first_word (next_field text))) why.Form) _ item e in
+    let (u, is_u, e₂) = bind_ok (supported text (are_simple feature.is_simple (next_field (next_field text)))) _ item e₁ in
+    let (layer, is_layer, e₃) = bind_ok (ok_or (slice_get head.layers n) why.Number) _ item e₂ in
+    let (f, is_f, e₄) = bind_ok (of_feature (feature_of layer head.langs (next_field (next_field text)))) _ item e₃ in
+    let (d, is_d, e₅) = bind_ok (ok_or (data_of (next_field (next_field text))) fault.Json) (λ d. feature_of_data layer head.langs d) f (feature_ok (feature_of layer head.langs (next_field (next_field text))) f is_f) in
+    let there : slice_get head.layers n ≡ Some layer = there_ok (slice_get head.layers n) layer why.Number is_layer in
+    let at_zoom : AtZoom layer.zoom f = feature_zoom layer head.langs d f e₅ in
+    let same : Body (Put n f) ≡ item = cc e₄ in
+    subst (OfBody head) same (subst (λ o. IsSome o × IfSome o (λ l. AtZoom l.zoom f)) (sym there) (refl, at_zoom))
+
+drop_fits : (head : Head) (text : List ℕ) (item : Item) → drop_line head text ≡ Ok item → OfBody head item
+drop_fits head text item e =
+    let (n, is_n, e₁) = bind_ok (two_numbers text) _ item e in
+    let (u, is_u, e₂) = bind_ok (supported text true) _ item e₁ in
+    let (v, is_v, e₃) = bind_ok (wanted (nat_lt n.0 (length head.layers) && nat_lt n.1 67108864) why.Number) _ item e₂ in
+    let same : Body (Drop n.0 n.1) ≡ item = cc e₃ in
+    subst (OfBody head) same tt
+
+load_fits : (s : SessionView) (text : List ℕ) (item : Item) → load_line s text ≡ Ok item → OfBody s.head item
+load_fits s text item e =
+    let (n, is_n, e₁) = bind_ok (two_numbers text) _ item e in
+    let (u, is_u, e₂) = bind_ok (supported text true) _ item e₁ in
+    let (v, is_v, e₃) = bind_ok (wanted (nat_lt n.1 (length s.head.layers)) why.Number) _ item e₂ in
+    let (w, is_w, e₄) = bind_ok (wanted (nat_lt n.0 s.feeds && not (list_any (λ f. f == n.0) s.named)) why.Feed) _ item e₃ in
+    let same : Body (Load n.0 n.1) ≡ item = cc e₄ in
+    subst (OfBody s.head) same tt
+
+limit_fits : (head : Head) (text : List ℕ) (item : Item) → limit_line text ≡ Ok item → OfBody head item
+limit_fits head text item e =
+    let (n, is_n, e₁) = bind_ok (one_number text) _ item e in
+    let (u, is_u, e₂) = bind_ok (supported text true) _ item e₁ in
+    let (v, is_v, e₃) = bind_ok (wanted (nat_le 1 n && nat_le n 8388608) why.Number) _ item e₂ in
+    let same : Body (Limit n) ≡ item = cc e₃ in
+    subst (OfBody head) same tt
+
+ask_fits : (head : Head) (round : List BodyLine) (text : List ℕ) (item : Item) → ask_line round text ≡ Ok item → OfBody head item
+ask_fits head round text item e =
+    let (lane, is_lane, e₁) = bind_ok (ok_or (number_of (first_word (next_field text))) why.Form) _ item e in
+    let (u, is_u, e₂) = bind_ok (supported text (not (asks_language (after_word (next_field text))))) _ item e₁ in
+    let (v, is_v, e₃) = bind_ok (wanted (nat_lt lane 8) why.Number) _ item e₂ in
+    let (w, is_w, e₄) = bind_ok (wanted (nat_lt (count_by is_asking round) 4096) why.Asks) _ item e₃ in
+    let whole = and_parts (is_ascii text) (not (asks_language (after_word (next_field text)))) (check_ok (is_ascii text && not (asks_language (after_word (next_field text)))) tt u why.NotYet is_u).0 in
+    let low = ltb-true lane 8 (check_ok (nat_lt lane 8) tt v why.Number is_v).0 in
+    let field : is_ascii (next_field text) ≡ true = skipped-ascii (after_word text) (after-ascii (λ b. b == 32) text whole.0) in
+    let query = is_ascii-all (after_word (next_field text)) (after-ascii (λ b. b == 32) (next_field text) field) in
+    let same : Body (Ask lane (after_word (next_field text))) ≡ item = cc e₄ in
+    subst (OfBody head) same (low, query)
+
+bare_fits : (head : Head) (said item : Item) (text : List ℕ) → OfBody head said → bare_line said text ≡ Ok item → OfBody head item
+bare_fits head said item text of_body e =
+    let (u, is_u, e₁) = bind_ok (wanted (nat_lt (length (words_of text)) 2) why.Form) _ item e in
+    let (v, is_v, e₂) = bind_ok (supported text true) _ item e₁ in
+    let same : said ≡ item = cc e₂ in
+    subst (OfBody head) same of_body
+
+word_fits : (s : SessionView) (text : List ℕ) (w : Option Word) (item : Item) → line_of_word s text w ≡ Ok item → OfBody s.head item
+word_fits s text (Some word.Put) item e = put_fits s.head text item e
+word_fits s text (Some word.Drop) item e = drop_fits s.head text item e
+word_fits s text (Some word.Load) item e = load_fits s text item e
+word_fits s text (Some word.Limit) item e = limit_fits s.head text item e
+word_fits s text (Some word.Publish) item e = bare_fits s.head (Body Publish) item text tt e
+word_fits s text (Some word.Ask) item e = ask_fits s.head s.round text item e
+word_fits s text (Some word.Join) item e = bare_fits s.head Join item text tt e
+word_fits s text (Some word.End) item e = bare_fits s.head End item text tt e
+word_fits s text None item e = absurd (cc e)
+
+body_fits : (s : SessionView) (text : List ℕ) (item : Item) → body_line s text ≡ Ok item → OfBody s.head item
+body_fits s text item e = word_fits s text (word_of (first_word text)) item e
+
+-- ---- what any line says
+
+-- a line of the body keeps what the head asks for
+abbrev Fitting : Head → Item → Type 0
+Fitting head Skipped = ⊤
+Fitting head Title = ⊤
+Fitting head (Langs codes) = ⊤
+Fitting head (Layer layer) = ⊤
+Fitting head (Body said) = IsLineOf head said
+Fitting head Join = ⊤
+Fitting head End = ⊤
+
+fitting : (head : Head) (item : Item) → OfBody head item → Fitting head item
+fitting head Skipped of_body = tt
+fitting head Title of_body = tt
+fitting head (Langs codes) of_body = tt
+fitting head (Layer layer) of_body = tt
+fitting head (Body said) of_body = of_body
+fitting head Join of_body = tt
+fitting head End of_body = tt
+
+title_fits : (head : Head) (text : List ℕ) (item : Item) → title_line text ≡ Ok item → Fitting head item
+title_fits head text item e =
+    let (u, is_u, e₁) = bind_ok (wanted (bytes_eq (take 8 text) (codes "carmen 1") && list_all (λ b. b == 32) (drop 8 text)) why.Head) _ item e in
+    let same : Title ≡ item = cc e₁ in
+    subst (Fitting head) same tt
+
+langs_fits : (head : Head) (text : List ℕ) (item : Item) → langs_line text ≡ Ok item → Fitting head item
+langs_fits head text item e =
+    let (u, is_u, e₁) = bind_ok (supported text true) _ item e in
+    let (langs, is_langs, e₂) = bind_ok (ok_or (langs_of (after_word text)) why.Lang) _ item e₁ in
+    let same : Langs langs ≡ item = cc e₂ in
+    subst (Fitting head) same tt
+
+layer_fits : (head : Head) (text : List ℕ) (item : Item) → layer_line head.layers text ≡ Ok item → Fitting head item
+layer_fits head text item e =
+    let (u, is_u, e₁) = bind_ok (supported text (are_simple is_simple (next_field text))) _ item e in
+    let (found, is_found, e₂) = bind_ok (of_layer (layer_of head.layers (next_field text))) _ item e₁ in
+    let same : Layer found ≡ item = cc e₂ in
+    subst (Fitting head) same tt
+
+head_fits : (s : SessionView) (first : Bool) (text : List ℕ) (item : Item) → head_line s first text ≡ Ok item → Fitting s.head item
+head_fits s first text item e = by (bytes_eq (first_word text) (codes "langs") && first) (bytes_eq (first_word text) (codes "layer")) (nat_le 1 (length s.head.layers)) e
+  where
+    by : (a b c : Bool) → (if a then langs_line text else if b then layer_line s.head.layers text else if c then body_line s text else Err why.Word) ≡ Ok item → Fitting s.head item
+    by true b c e = langs_fits s.head text item e
+    by false true c e = layer_fits s.head text item e
+    by false false true e = fitting s.head item (body_fits s text item e)
+    by false false false e = absurd (cc e)
+
+staged_fits : (s : SessionView) (stage : Stage) (text : List ℕ) (item : Item) → staged_line s stage text ≡ Ok item → Fitting s.head item
+staged_fits s at.BeforeHead text item e = title_fits s.head text item e
+staged_fits s at.AfterTitle text item e = head_fits s true text item e
+staged_fits s at.InHead text item e = head_fits s false text item e
+staged_fits s at.InBody text item e = fitting s.head item (body_fits s text item e)
+staged_fits s at.Ended text item e = fitting s.head item (body_fits s text item e)
+staged_fits s (at.Spent fault) text item e = absurd (cc e)
+
+-- a line that is taken is skipped, or says something by the stage
+taken : (s : SessionView) (line : List ℕ) (item : Item) (P : Item → Type 0) → P Skipped → (staged_line s s.stage (line_text line) ≡ Ok item → P item) → line_at s line ≡ Ok item → P item
+taken s line item P none says e =
+    let (u, is_u, e₁) = bind_ok (already s.stage) _ item e in
+    let (v, is_v, e₂) = bind_ok (wanted (nat_le (length line) longest) why.Long) _ item e₁ in
+    let (w, is_w, e₃) = bind_ok (wanted (is_utf8 line) why.Utf8) _ item e₂ in
+    by (is_skipped (line_text line)) e₃
+  where
+    by : (b : Bool) → (if b then Ok Skipped else staged_line s s.stage (line_text line)) ≡ Ok item → P item
+    by true e = let same : Skipped ≡ item = cc e in subst P same none
+    by false e = says e
+
+-- a line of the body that is taken keeps what the head asks for
+pub fits_head : (s : SessionView) (line : List ℕ) (said : BodyLine) → line_at s line ≡ Ok (Body said) → IsLineOf s.head said
+fits_head s line said e = taken s line (Body said) (Fitting s.head) tt (staged_fits s s.stage (line_text line) (Body said)) e
+
+-- ---- the head in the body
+
+in_body : (s : SessionView) (line : List ℕ) (item : Item) → s.stage ≡ at.InBody → line_at s line ≡ Ok item → OfBody s.head item
+in_body s line item stage e = taken s line item (OfBody s.head) tt (λ says. body_fits s (line_text line) item (subst (λ (st : Stage). staged_line s st (line_text line) ≡ Ok item) stage says)) e
+
+-- what such a line leaves as it is
+body_stays : (s : SessionView) (item : Item) → OfBody s.head item → (after_item s item).head ≡ s.head
+body_stays s Skipped of_body = refl
+body_stays s Title of_body = refl
+body_stays s (Langs codes) of_body = absurd of_body
+body_stays s (Layer layer) of_body = absurd of_body
+body_stays s (Body said) of_body = refl
+body_stays s Join of_body = refl
+body_stays s End of_body = refl
+
+-- a line of the body leaves the head as it is
+pub head_stays : (s : SessionView) (item : Item) (line : List ℕ) → s.stage ≡ at.InBody → line_at s line ≡ Ok item → (after_item s item).head ≡ s.head
+head_stays s item line stage e = body_stays s item (in_body s line item stage e)
+
+step_head : (s : SessionView) (n : ℕ) (lines : List (List ℕ)) (item : Item) → s.stage ≡ at.InBody → OfBody s.head item
+    → ((next : SessionView) → next.stage ≡ at.InBody → (reading_from next (n + 1) lines).head ≡ next.head)
+    → (after_step (step_of s.round item) (after_item s item) (λ next. reading_from next (n + 1) lines)).head ≡ s.head
+step_head s n lines Skipped stage of_body later = later s stage
+step_head s n lines Title stage of_body later = absurd of_body
+step_head s n lines (Langs codes) stage of_body later = absurd of_body
+step_head s n lines (Layer layer) stage of_body later = absurd of_body
+step_head s n lines (Body said) stage of_body later = later (after_item s (Body said)) refl
+step_head s n lines Join stage of_body later = later (after_item s Join) refl
+step_head s n lines End stage of_body later = refl
+
+-- so does the reading from there on
+pub reading_head : (s : SessionView) (n : ℕ) (lines : List (List ℕ)) → s.stage ≡ at.InBody → (reading_from s n lines).head ≡ s.head
+reading_head s n [] stage = refl
+reading_head s n (line ∷ lines) stage = by (line_at s line) refl (λ next inside. reading_head next (n + 1) lines inside)
+  where
+    by : (said : Result Item Why) → line_at s line ≡ said → ((next : SessionView) → next.stage ≡ at.InBody → (reading_from next (n + 1) lines).head ≡ next.head)
+        → (reading_after s n said (λ next. reading_from next (n + 1) lines)).head ≡ s.head
+    by (Ok item) is later = step_head s n lines item stage (in_body s line item stage is) later
+    by (Err fault) is later = refl
+
+-- ---- where a session stands after a round
+
+-- a round that is closed is the open one; the session is in its body, with no lines
+pub stage_after : (s : SessionView) (line : List ℕ) (item : Item) (round : List BodyLine) → line_at s line ≡ Ok item → step_of s.round item ≡ Ready round
+    → ((after_item s item).stage ≡ at.InBody) × ((after_item s item).head ≡ s.head) × ((after_item s item).round ≡ []) × (round ≡ s.round)
+stage_after s line Skipped round is does = absurd (cc does)
+stage_after s line Title round is does = absurd (cc does)
+stage_after s line (Langs codes) round is does = absurd (cc does)
+stage_after s line (Layer layer) round is does = absurd (cc does)
+stage_after s line (Body said) round is does = absurd (cc does)
+stage_after s line Join round is does = (refl, refl, refl, cc does)
+stage_after s line End round is does = absurd (cc does)
+
+-- so is the last one
+pub last_after : (s : SessionView) (item : Item) (round : List BodyLine) → step_of s.round item ≡ Last round → ((after_item s item).head ≡ s.head) × (round ≡ s.round)
+last_after s Skipped round does = absurd (cc does)
+last_after s Title round does = absurd (cc does)
+last_after s (Langs codes) round does = absurd (cc does)
+last_after s (Layer layer) round does = absurd (cc does)
+last_after s (Body said) round does = absurd (cc does)
+last_after s Join round does = absurd (cc does)
+last_after s End round does = (refl, cc does)
