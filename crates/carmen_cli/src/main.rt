@@ -1,13 +1,9 @@
 //! The geocoder's program: it reads a session on standard input and writes the answers on standard output.
 #![tactic(auto)]
 
-mod reader;
-mod respond;
-mod running;
 #[cfg(test)]
 mod tests;
 mod top;
-mod transfer;
 
 ghost use Rattle.std.specs.Prelude.{◌≡◌};
 ghost use Rattle.std.specs.Io.KnownBytes.{Appends};
@@ -17,13 +13,13 @@ ghost use Rattle.session_text.specs.Status.{number_of};
 
 use geo_outside::device::{Sink, SinkError};
 use geo_outside::edge::{ReadSource, WriteSink};
+use query_server::transfer::put_all;
 use session_text::status::{Status, status_text};
 use std::env;
 use std::env::Env;
 use std::io::{Eprint, ErrorKind};
 use std::process::ExitCode;
 use top::carmen;
-use transfer::put_all;
 
 /// What is answered to `--help`.
 const HELP: &str = "\

@@ -1,22 +1,16 @@
-//! The top call: a session from a source, its answers to a sink.
+//! The top call: the words of a command line, a source and a sink.
 
 ghost use Rattle.std.specs.Prelude.{◌≡◌, ◌↔◌, ◌≤◌, map, string_bytes, true, false};
 ghost use Rattle.std.specs.Io.KnownBytes.{Keeps};
 ghost use Rattle.geo_outside.specs.Device.{Rose};
+ghost use Rattle.query_server.specs.Promise.{byte_limit, EndsAs, IsDecided};
 ghost use Rattle.session_text.specs.declared.session.Kind.TheVariants.{Asks};
-ghost use Rattle.carmen_cli.specs.TopCall.{asks_for_plain, byte_limit, EndsAs, IsDecided};
+ghost use Rattle.carmen_cli.specs.TopCall.{asks_for_plain};
 
-use crate::running::Running;
 use geo_outside::device::{Sink, Source};
+use query_server::run::run_plain;
 use session_text::session::Kind;
 use session_text::status::Status;
-use std::alloc::Global;
-
-/// The most bytes that are taken from a source.
-const BYTE_LIMIT: usize = 268_435_456;
-
-/// The most bytes that are asked for at once.
-const BLOCK: usize = 65_536;
 
 /// The words are the one word `plain`.
 fn is_plain(words: &[String]) -> bool
@@ -63,39 +57,4 @@ pub fn carmen<R: AllocGlobal, S: Source, K: Sink>(
         return Status::Usage;
     }
     run_plain(rt.alloc(), Kind::Asks, source, sink)
-}
-
-/// Reads a session whose lines may ask as the kind says, answers it and writes the answers to the sink. Each status but
-/// `Usage`, which never comes, means what it means at `carmen`.
-pub fn run_plain<S: Source, K: Sink>(
-    alloc: Global,
-    kind: Kind,
-    source: &mut S,
-    sink: &mut K,
-) -> Status
-    ensures session { EndsAs byte_limit kind (S.left source.old) (S.left source.new) (K.contents sink.old) (K.contents sink.new) result }
-    ensures usage { ¬ (result ≡ Status.Usage) }
-    ensures read_fault { result ≡ Status.ReadFault → Rose (S.faults source.old) (S.faults source.new) }
-    ensures write_fault { result ≡ Status.WriteFault → Rose (K.faults sink.old) (K.faults sink.new) }
-    ensures decided { ¬ (Rose (S.faults source.old) (S.faults source.new)) → ¬ (Rose (K.faults sink.old) (K.faults sink.new))
-        → IsDecided byte_limit kind (S.left source.old) result }
-    ensures later { (S.faults source.old ≤ S.faults source.new) × (K.faults sink.old ≤ K.faults sink.new) }
-{
-    let mut running = Running::new(alloc, kind);
-    let mut block = [0u8; BLOCK];
-    let mut taken = 0;
-    while taken < BYTE_LIMIT {
-        let room = BLOCK.min(BYTE_LIMIT - taken);
-        let Ok(n) = source.read(&mut block[..room]) else {
-            return Status::ReadFault;
-        };
-        if n == 0 {
-            return running.end(sink);
-        }
-        if let Some(status) = running.take(&block[..n], sink) {
-            return status;
-        }
-        taken += n;
-    }
-    Status::TooMuch
 }

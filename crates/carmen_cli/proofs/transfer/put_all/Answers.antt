@@ -1,9 +1,0 @@
-use Rattle.std.proofs.Common.{rules}
-use Rattle.carmen_cli.proofs.Pieces.{put_more}
-use Rattle.carmen_cli.proofs.transfer.put_all.Goals as goal
-
-pub loop-rest-preserved : goal.loop-rest-preserved
-loop-rest-preserved g c = record {
-  put = put_more _ _ _ _ _ _ c.loop-rest.invariant.put c.in_ok-n.ensures.bytes;
-  later = search rules;
-}

@@ -1,0 +1,67 @@
+//! A session from a source, its answers to a sink.
+
+ghost use Rattle.std.specs.Prelude.{◌≡◌, ◌≤◌};
+ghost use Rattle.geo_outside.specs.Device.{Rose};
+ghost use Rattle.query_server.specs.Promise.{byte_limit, EndsAs, IsDecided};
+
+use crate::running::Running;
+use geo_outside::device::{Sink, Source};
+use session_text::session::Kind;
+use session_text::status::Status;
+use std::alloc::Global;
+
+/// The most bytes that are taken from a source.
+const BYTE_LIMIT: usize = 268_435_456;
+
+/// The most bytes that are asked for at once.
+const BLOCK: usize = 65_536;
+
+/// Reads a session whose lines may ask as the kind says, answers it and writes the answers to the sink. It goes round by
+/// round: a round is answered once its `join` or `end` line was taken, and its text is written before more is read; nothing
+/// is read behind the `end` line but what came with its block. Nothing taken is given back, and nothing written is undone.
+/// What is said of bytes holds where the source and the sink tell theirs.
+///
+/// - `Done`: the `end` line was read; what was written is a text of all rounds.
+/// - `BadLine`: this line is the first that is refused, for this reason; what was written is a text of the closed rounds.
+/// - `Unended`: the source has nothing left, and no line is refused or `end`; likewise.
+/// - `TooMuch`: 268,435,456 bytes were taken, and no line of them is refused or `end`; likewise.
+/// - `ReadFault`: a read of this call failed, and the source has counted it; no line taken before is refused or `end`;
+///   likewise.
+/// - `WriteFault`: a write of this call failed, and the sink has counted it; a front of a text of the closed rounds was
+///   written, and not all of it.
+/// - `Memory`: room was asked for and refused, which no clause says; a front of such a text was written.
+///
+/// `Usage` never comes. Where neither count of faults rose, the bytes of the source alone decide the status, but for
+/// `Memory`.
+pub fn run_plain<S: Source, K: Sink>(
+    alloc: Global,
+    kind: Kind,
+    source: &mut S,
+    sink: &mut K,
+) -> Status
+    ensures session { EndsAs byte_limit kind (S.left source.old) (S.left source.new) (K.contents sink.old) (K.contents sink.new) result }
+    ensures usage { ¬ (result ≡ Status.Usage) }
+    ensures read_fault { result ≡ Status.ReadFault → Rose (S.faults source.old) (S.faults source.new) }
+    ensures write_fault { result ≡ Status.WriteFault → Rose (K.faults sink.old) (K.faults sink.new) }
+    ensures decided { ¬ (Rose (S.faults source.old) (S.faults source.new)) → ¬ (Rose (K.faults sink.old) (K.faults sink.new))
+        → IsDecided byte_limit kind (S.left source.old) result }
+    ensures later { (S.faults source.old ≤ S.faults source.new) × (K.faults sink.old ≤ K.faults sink.new) }
+{
+    let mut running = Running::new(alloc, kind);
+    let mut block = [0u8; BLOCK];
+    let mut taken = 0;
+    while taken < BYTE_LIMIT {
+        let room = BLOCK.min(BYTE_LIMIT - taken);
+        let Ok(n) = source.read(&mut block[..room]) else {
+            return Status::ReadFault;
+        };
+        if n == 0 {
+            return running.end(sink);
+        }
+        if let Some(status) = running.take(&block[..n], sink) {
+            return status;
+        }
+        taken += n;
+    }
+    Status::TooMuch
+}

@@ -1,0 +1,149 @@
+//! A session on its way from the source to the sink: each closed round is answered and written before more is read.
+
+ghost use Rattle.std.specs.Prelude.{◌≡◌, ◌<◌, ◌≤◌, ℕ, true, ◌+◌, ◌++◌, ◌∷◌, [], List, length, Option, None, Some};
+ghost use Rattle.std.specs.Io.KnownBytes.{Appends};
+ghost use Rattle.geo_outside.specs.Device.{Rose};
+ghost use Rattle.session_text.specs.Reading.{NoFeed, reading};
+ghost use Rattle.session_text.specs.declared.session.Kind.{Kind};
+ghost use Rattle.session_text.specs.declared.status.Status.TheVariants as status;
+ghost use Rattle.query_server.specs.Promise.{Says};
+ghost use Rattle.query_server.specs.Running.{IsAt, IsFit, Goes, IsReady, IsRoundWritten};
+
+use crate::reader::{Reader, next_line};
+use crate::respond::{Standing, answer_round};
+use crate::transfer::put_all;
+use geo_base::refusal::Refused;
+use geo_outside::device::{Sink, SinkError};
+use session_text::body::Round;
+use session_text::session::{Kind, Step};
+use session_text::status::Status;
+use std::alloc::Global;
+
+/// Where a call stands between two bytes of its source.
+#[derive(Drop)]
+pub struct Running {
+    /// What was read.
+    pub reader: Reader,
+    /// What the lines of the closed rounds left.
+    pub standing: Standing,
+    alloc: Global,
+}
+
+impl Running {
+    /// A call before the first byte of its source.
+    pub fn new(alloc: Global, kind: Kind) -> Running
+        ensures at { IsAt kind [] [] result }
+        ensures fits { IsFit result }
+        ensures line { result.reader.line ≡ 1 }
+    {
+        Running {
+            reader: Reader::new(alloc, kind),
+            standing: Standing::new(alloc),
+            alloc,
+        }
+    }
+
+    /// Answers a closed round and writes its text; answers the status where that ends the call.
+    fn answer<K: Sink>(&mut self, round: Round, sink: &mut K) -> Option<Status>
+        requires { (bound : ℕ) × (bound ≤ 4294967295) × IsReady self.old.reader.session.head bound round self.old.standing }
+        ensures reader { self.new.reader ≡ self.old.reader }
+        ensures written { (put : List ℕ) × Appends (K.contents sink.old) (K.contents sink.new) put
+            × IsRoundWritten self.old.reader.session.head round self.old.standing self.new.standing result put }
+        ensures ready { (bound : ℕ) → IsReady self.old.reader.session.head bound round self.old.standing → result ≡ None → IsReady self.old.reader.session.head bound [] self.new.standing }
+        ensures later { K.faults sink.old ≤ K.faults sink.new }
+        ensures cause { result ≡ Some status.WriteFault → Rose (K.faults sink.old) (K.faults sink.new) }
+    {
+        let head = self.reader.session.head();
+        let Ok(text) = answer_round(self.alloc, head, &mut self.standing, round) else {
+            return Some(Status::Memory);
+        };
+        match put_all(sink, &text) {
+            Ok(()) => None,
+            Err(SinkError::Failed) => Some(Status::WriteFault),
+            Err(SinkError::Memory) => Some(Status::Memory),
+        }
+    }
+
+    /// Takes these bytes as the end of the open line, which a line feed follows; answers the status where the line ends the
+    /// call.
+    fn line<K: Sink>(&mut self, part: &[u8], sink: &mut K) -> Option<Status>
+        requires fits { IsFit self.old }
+        requires part { NoFeed part.now }
+        requires number { self.old.reader.line < 4294967295 }
+        ensures goes { (kind : Kind) → (bytes written : List ℕ) → IsAt kind bytes written self.old
+            → (put : List ℕ) × Appends (K.contents sink.old) (K.contents sink.new) put × Goes kind (bytes ++ part.now ++ 10 ∷ []) (written ++ put) result self.new }
+        ensures fits { result ≡ None → IsFit self.new }
+        ensures number { result ≡ None → self.new.reader.line ≡ self.old.reader.line + 1 }
+        ensures begun { result ≡ None → self.new.reader.begun.items ≡ [] }
+        ensures statuses { ¬ (result ≡ Some status.Usage) × ¬ (result ≡ Some status.TooMuch) × ¬ (result ≡ Some status.ReadFault) }
+        ensures later { K.faults sink.old ≤ K.faults sink.new }
+        ensures cause { result ≡ Some status.WriteFault → Rose (K.faults sink.old) (K.faults sink.new) }
+    {
+        match self.reader.end_line(part) {
+            Ok(Step::More) => None,
+            Ok(Step::Ready(round)) => self.answer(round, sink),
+            Ok(Step::Last(round)) => Some(self.answer(round, sink).unwrap_or(Status::Done)),
+            Err(Refused::Fault(why)) => Some(Status::BadLine {
+                line: self.reader.line,
+                why,
+            }),
+            Err(Refused::Memory) => Some(Status::Memory),
+        }
+    }
+
+    /// Takes some bytes of the source; answers the status where one of their lines ends the call.
+    pub fn take<K: Sink>(&mut self, block: &[u8], sink: &mut K) -> Option<Status>
+        requires fits { IsFit self.old }
+        requires number { self.old.reader.line + length block.now ≤ 4294967295 }
+        ensures goes { (kind : Kind) → (bytes written : List ℕ) → IsAt kind bytes written self.old
+            → (put : List ℕ) × Appends (K.contents sink.old) (K.contents sink.new) put × Goes kind (bytes ++ block.now) (written ++ put) result self.new }
+        ensures fits { result ≡ None → IsFit self.new }
+        ensures number { result ≡ None → self.new.reader.line ≤ self.old.reader.line + length block.now }
+        ensures later { K.faults sink.old ≤ K.faults sink.new }
+        ensures cause { result ≡ Some status.WriteFault → Rose (K.faults sink.old) (K.faults sink.new) }
+    {
+        let mut rest = block;
+        while let Some((part, more)) = next_line(rest) {
+            if let Some(status) = self.line(part, sink) {
+                return Some(status);
+            }
+            rest = more;
+        }
+        self.go_on(rest)
+    }
+
+    /// Takes bytes in which no line ends.
+    fn go_on(&mut self, part: &[u8]) -> Option<Status>
+        requires fits { IsFit self.old }
+        requires part { NoFeed part.now }
+        ensures goes { (kind : Kind) → (bytes written : List ℕ) → IsAt kind bytes written self.old → Goes kind (bytes ++ part.now) written result self.new }
+        ensures fits { result ≡ None → IsFit self.new }
+        ensures number { self.new.reader.line ≡ self.old.reader.line }
+        ensures cause { ¬ (result ≡ Some status.WriteFault) }
+    {
+        match self.reader.go_on(part) {
+            Ok(()) => None,
+            Err(Refused::Fault(why)) => Some(Status::BadLine {
+                line: self.reader.line,
+                why,
+            }),
+            Err(Refused::Memory) => Some(Status::Memory),
+        }
+    }
+
+    /// Ends where the source has nothing left: what has come of the open line is the last one, where it is `end`.
+    pub fn end<K: Sink>(&mut self, sink: &mut K) -> Status
+        requires fits { IsFit self.old }
+        requires number { self.old.reader.line < 4294967295 }
+        ensures says { (kind : Kind) → (bytes written : List ℕ) → IsAt kind bytes written self.old
+            → (put : List ℕ) × Appends (K.contents sink.old) (K.contents sink.new) put × ((limit count : ℕ) → Says limit true count result (reading 0 kind true bytes) (written ++ put)) }
+        ensures statuses { ¬ (result ≡ status.Usage) × ¬ (result ≡ status.TooMuch) × ¬ (result ≡ status.ReadFault) }
+        ensures later { K.faults sink.old ≤ K.faults sink.new }
+        ensures cause { result ≡ status.WriteFault → Rose (K.faults sink.old) (K.faults sink.new) }
+    {
+        if !self.reader.is_at_end() {
+            return Status::Unended;
+        }
+        self.line(&[], sink).unwrap_or(Status::Unended)
+    }
+}
