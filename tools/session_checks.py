@@ -1,0 +1,322 @@
+"""What a run of the program on a session has to be, as far as the words of the session's lines say."""
+
+import collections
+import itertools
+import json
+import re
+
+LONGEST = 1_048_576  # the most bytes of a line
+MOST_ASKS = 4096  # of a round
+MOST_LAYERS = 16
+MOST_LANGS = 127
+MOST_FEATURES = 262_144
+MOST_ROWS = 8_388_608
+MOST_LIMIT = 8_388_608
+USUAL_LIMIT = 2_000_000
+IDS = 1 << 26
+
+BODY = {"put", "drop", "load", "limit", "publish", "ask", "join", "end"}
+CODE = re.compile(r"[A-Za-z][A-Za-z0-9_-]{1,15}")
+LAYER_FAULTS = [
+    "7 Layer 1 Json", "7 Layer 2 Name", "7 Layer 3 Zoom", "7 Layer 4 Falling", "7 Layer 5 Stack", "7 Layer 7 TooMany",
+]
+FEATURE_FAULTS = [
+    "10 Feature 1 Json", "10 Feature 2 Id", "10 Feature 3 Text", "10 Feature 4 Zxy", "10 Feature 5 Zoom",
+    "10 Feature 6 Score",
+]
+NO_END = "no line `end`"
+REFUSED = re.compile(r"carmen: line ([1-9]\d*): (\d.*)\n")
+ANSWER = re.compile(r"gen (\d+) found (\d+)|gen (\d+) grids (\d+) (\d+)|unreadable (\d \w+)")
+CONTEXT = re.compile(r"context (\d+)/(\d+) score (\d+)((?: \d+:\d+@\d+/\d+/\d+\[\d+,\d+\)=\d+)+)")
+LINK = re.compile(r" (\d+):(\d+)@(\d+)/(\d+)/(\d+)\[(\d+),(\d+)\)=(\d+)")
+
+
+# ---- what the words of a session say
+
+
+def number_of(field):
+    """The number of a field, which is 1 to 10 digits, or None."""
+    return int(field) if re.fullmatch("[0-9]{1,10}", field) else None
+
+
+def numbers_of(text):
+    """The numbers of fields with spaces between, or None."""
+    numbers = [number_of(field) for field in text.split(" ") if field]
+    return None if None in numbers else numbers
+
+
+def id_and_rows(text):
+    """The id of an accepted feature, and the most rows that it can have."""
+    value = json.loads(text)
+    properties = value["properties"]
+    return value["id"], len(properties["carmen:zxy"]) * (properties["carmen:text"].count(",") + 1)
+
+
+class Reading:
+    """Where a session stands between two of its lines, and what those of its closed rounds were."""
+
+    def __init__(self):
+        self.place = "title"
+        self.zooms = []
+        self.open = []
+        self.asks = 0
+        self.closed = []
+
+    def line(self, line):
+        """What the line says, which is None where it can't be accepted, and the faults of which it may have one."""
+        if len(line) > LONGEST:
+            return None, ["1 Long"]
+        try:
+            text = line.decode("utf-8").removesuffix("\r")
+        except UnicodeDecodeError:
+            return None, ["2 Utf8"]
+        if not text.strip(" ") or text.startswith("#"):
+            return ("skipped",), []
+        if self.place == "title":
+            return (("title",), []) if text.rstrip(" ") == "carmen 1" else (None, ["3 Head"])
+        word, _, rest = text.partition(" ")
+        if word == "langs" and self.place == "langs":
+            return self.langs(rest)
+        if word == "layer" and self.place != "body":
+            if not text.isascii():
+                return None, ["12 NotYet"]
+            return (None if len(self.zooms) == MOST_LAYERS else ("layer", rest)), ["12 NotYet"] + LAYER_FAULTS
+        if word not in BODY or not self.zooms:
+            return None, ["4 Word"]
+        return self.body_line(word, rest)
+
+    def langs(self, rest):
+        if not rest.isascii():
+            return None, ["12 NotYet"]
+        codes = [code for code in rest.split(" ") if code]
+        if not 1 <= len(codes) <= MOST_LANGS or len(set(codes)) < len(codes) or not all(map(CODE.fullmatch, codes)):
+            return None, ["6 Lang"]
+        return ("langs",), []
+
+    def body_line(self, word, rest):
+        if word in ("put", "ask"):
+            field, _, text = rest.lstrip(" ").partition(" ")
+            n = number_of(field)
+            if n is None:
+                return None, ["5 Form"]
+            return self.put(n, text) if word == "put" else self.ask(n, text)
+        numbers = numbers_of(rest)
+        wanted = {"drop": 2, "load": 2, "limit": 1}.get(word, 0)
+        if numbers is None or len(numbers) != wanted:
+            return None, ["5 Form"]
+        if word == "limit":
+            return ((word, *numbers), []) if 1 <= numbers[0] <= MOST_LIMIT else (None, ["8 Number"])
+        if word == "drop":
+            return ((word, *numbers), []) if numbers[0] < len(self.zooms) and numbers[1] < IDS else (None, ["8 Number"])
+        if word == "load":
+            return None, ["9 Feed" if numbers[1] < len(self.zooms) else "8 Number"]
+        return (word,), []
+
+    def put(self, n, text):
+        if not text.isascii():
+            return None, ["12 NotYet"]
+        if n >= len(self.zooms):
+            return None, ["12 NotYet", "8 Number"]
+        return ("put", n, text), ["12 NotYet"] + FEATURE_FAULTS
+
+    def ask(self, n, text):
+        options = text.partition("|")[0].split(" ") if "|" in text else []
+        if not text.isascii() or any(word.startswith("lang=") for word in options):
+            return None, ["12 NotYet"]
+        if n > 7:
+            return None, ["8 Number"]
+        if self.asks == MOST_ASKS:
+            return None, ["11 Asks"]
+        return ("ask", n, text), []
+
+    def take(self, item):
+        """Takes what an accepted line says."""
+        if item[0] == "title":
+            self.place = "langs"
+        elif item[0] == "langs":
+            self.place = "head"
+        elif item[0] == "layer":
+            self.place = "head"
+            self.zooms.append(json.loads(item[1])["zoom"])
+        elif item[0] != "skipped":
+            self.place = "body"
+            if item[0] in ("join", "end"):
+                self.closed += self.open
+                self.open, self.asks = [], 0
+            elif item[0] == "put":
+                self.open.append((*item[:2], *id_and_rows(item[2])))
+            else:
+                self.open.append(item)
+                self.asks += item[0] == "ask"
+
+
+def walked(reading, raw, refused):
+    """Reads a session up to its end, or to the line of which the program says, by number and fault, that it is refused.
+    What is wrong with that, or None."""
+    lines = raw.split(b"\n")
+    rest = lines.pop()
+    if rest in (b"end", b"end\r") or len(rest) > LONGEST:
+        lines.append(rest)
+    told = "line %d is refused for %s" % refused if refused else None
+    for at, line in enumerate(lines, 1):
+        item, faults = reading.line(line)
+        if refused and refused[0] == at:
+            return None if refused[1] in faults else f"{told}, where it may be for {' or '.join(faults) or 'nothing'}"
+        if item is None:
+            return f"line {at} isn't refused for {' or '.join(faults)}"
+        try:
+            reading.take(item)
+        except (ValueError, LookupError, TypeError, AttributeError, RecursionError):
+            return f"line {at} isn't refused, though its JSON is none of a {item[0]}"
+        if item[0] == "end":
+            return f"{told}, which stands after the end" if refused else None
+    return f"{told}, which isn't there" if refused else NO_END
+
+
+# ---- what is written
+
+
+class Standing:
+    """What stands between two lines of the closed rounds."""
+
+    def __init__(self, zooms):
+        self.zooms = zooms
+        self.features = {}  # the most rows that each can have, by layer and id
+        self.rows = 0  # the sum of these
+        self.limit = USUAL_LIMIT
+        self.number = 0
+        self.published = set()
+        self.published_limit = USUAL_LIMIT
+        self.asks = [0] * 8
+
+    def put(self, n, some_id, rows, line):
+        at = n, some_id
+        risen = self.rows - self.features.get(at, 0) + rows
+        front, _, said = line.rpartition(" ")
+        may_be = said == ("changed" if at in self.features else "new")
+        may_be |= said == "features" and at not in self.features and len(self.features) == MOST_FEATURES
+        may_be |= said == "rows" and risen > MOST_ROWS
+        if said in ("new", "changed"):
+            self.features[at], self.rows = rows, risen
+        return front == f"put {n} {some_id}" and may_be
+
+    def drop(self, n, some_id, line):
+        rows = self.features.pop((n, some_id), None)
+        self.rows -= rows or 0
+        return line == f"drop {n} {some_id} {'none' if rows is None else 'gone'}"
+
+    def set_limit(self, n, line):
+        self.limit = n
+        return line == f"limit {n}"
+
+    def publish(self, line):
+        self.number += 1
+        self.published = set(self.features)
+        self.published_limit = self.limit
+        return line == f"published {self.number}"
+
+    def answer(self, lane, text, line):
+        """How many contexts follow the line, and of how many tokens; or None, where it isn't the line of the ask."""
+        front = f"ask {lane} {self.asks[lane]} "
+        found = ANSWER.fullmatch(line.removeprefix(front)) if line.startswith(front) else None
+        self.asks[lane] += 1
+        if not found:
+            return None
+        text = text.partition("|")[2] if "|" in text else text
+        tokens = len(re.findall("[A-Za-z0-9]+", text))
+        unreadable = "3 Long" if len(text) > 256 else "4 Empty" if tokens == 0 else "5 Tokens" if tokens > 20 else None
+        if found.group(6):
+            return (0, tokens) if found.group(6) in (unreadable, "1 Option", "2 Box") else None
+        if unreadable or int(found.group(1) or found.group(3)) != self.number:
+            return None
+        if found.group(3):
+            return (0, tokens) if int(found.group(4)) > int(found.group(5)) == self.published_limit else None
+        contexts = int(found.group(2))
+        return (contexts, tokens) if contexts <= min(40, 40 * len(self.published)) else None
+
+    def is_link(self, tokens, link):
+        """The link is of a published feature, on a tile of its layer's zoom, with a run of so many tokens and a value of it."""
+        at, some_id, z, x, y, start, stop, value = link
+        return (
+            (at, some_id) in self.published and z == self.zooms[at] and x < 1 << z and y < 1 << z
+            and start < stop <= tokens and value in (8000 * (stop - start), 10000 * (stop - start))
+        )
+
+    def target_and_key(self, tokens, line):
+        """The target and the key of a context; or None, where it isn't the line of one."""
+        found = CONTEXT.fullmatch(line)
+        if not found:
+            return None
+        reached, most, score = map(int, found.groups()[:3])
+        links = [tuple(map(int, link)) for link in LINK.findall(found.group(4))]
+        pairs = itertools.combinations(links, 2)
+        if not all(self.is_link(tokens, link) for link in links) or not all(joins(*pair) for pair in pairs):
+            return None
+        if most != 10000 * tokens or reached != sum(link[7] for link in links) or reached > most or score > 15:
+            return None
+        return links[0][:2], 16 * reached + score
+
+
+def joins(deep, shallow):
+    """The links' layers fall, their runs are disjoint, and the second's tile holds the first's."""
+    up = deep[2] - shallow[2]
+    return (
+        deep[0] > shallow[0] and (deep[6] <= shallow[5] or shallow[6] <= deep[5])
+        and up >= 0 and (deep[3] >> up, deep[4] >> up) == shallow[3:5]
+    )
+
+
+def contexts_fault(standing, tokens, lines):
+    """What is wrong with the contexts of an answer, or None."""
+    found = [standing.target_and_key(tokens, line) for line in lines]
+    if None in found:
+        return f"no context: {lines[found.index(None)][:120]!r}"
+    if len(set(target for target, _ in found)) < len(found):
+        return "two contexts of one target"
+    if found != sorted(found, key=lambda entry: (-entry[1], entry[0])):
+        return "contexts that aren't in order"
+    return None
+
+
+def output_fault(reading, output):
+    """What is wrong with the text of the closed rounds, or None."""
+    if output and not output.endswith("\n"):
+        return "the output ends within a line"
+    if re.search(r"\b0\d", output):
+        return "a number begins with a zero"
+    lines = collections.deque(output.split("\n")[:-1])
+    standing = Standing(reading.zooms)
+    steps = {"put": standing.put, "drop": standing.drop, "limit": standing.set_limit, "publish": standing.publish}
+    for word, *fields in reading.closed:
+        line = lines.popleft() if lines else ""
+        if word in steps:
+            if not steps[word](*fields, line):
+                return f"for {word} {fields}: {line[:120]!r}"
+            continue
+        answer = standing.answer(*fields, line)
+        if answer is None or answer[0] > len(lines):
+            return f"for ask {fields}"[:200] + f": {line[:120]!r}"
+        fault = contexts_fault(standing, answer[1], [lines.popleft() for _ in range(answer[0])])
+        if fault:
+            return fault
+    return f"more lines: {lines[0][:120]!r}" if lines else None
+
+
+def session_fault(raw, status, told):
+    """What is wrong with the status of a run on these bytes and with its text, or None; and the reading of the closed rounds."""
+    reading = Reading()
+    if status == 3 and told == "carmen: no end line\n":
+        fault = walked(reading, raw, None)
+        return (None if fault == NO_END else fault or "status 3, and there is a line `end`"), reading
+    if status == 0 and not told:
+        return walked(reading, raw, None), reading
+    refused = REFUSED.fullmatch(told)
+    if status == 2 and refused:
+        return walked(reading, raw, (int(refused.group(1)), refused.group(2))), reading
+    return f"status {status} with {told[:120]!r} on standard error", reading
+
+
+def run_fault(raw, status, output, told):
+    """What is wrong with the status of a run on these bytes and with what it wrote, or None."""
+    fault, reading = session_fault(raw, status, told)
+    return fault or output_fault(reading, output)
