@@ -9,4 +9,5 @@ mod Factors
 mod LayerTokens
 mod Offers
 pub mod OfHead
+mod Rising
 mod RunLists

@@ -1,6 +1,6 @@
 //! All contexts of some links, each offered to a list of the best.
 
-ghost use Rattle.std.specs.Prelude.{◌≡◌, ◌+◌, ◌-◌, ◌<◌, ◌≤◌, ◌++◌, ℕ, true, List, Contains, length, filter, All, OnOk, IfOk};
+ghost use Rattle.std.specs.Prelude.{◌≡◌, ◌+◌, ◌-◌, ◌<◌, ◌≤◌, ◌++◌, ℕ, true, List, Contains, length, filter, All, AllPairs, OnOk, IfOk, drop, slice_index_or};
 ghost use Rattle.geo_base.specs.declared.link.Link.{Link};
 ghost use Rattle.geo_base.specs.Link.{admits_below, stacks};
 ghost use Rattle.geo_base.specs.Answer.{best};
@@ -72,15 +72,34 @@ fn offer_with(
     Ok(())
 }
 
-/// The best contexts of some links of these layers, which agree on the zoom of each layer and the score of each feature.
+/// A place from which on no link has a smaller layer than the link at i: the one that was found for a link before it, or else i.
+fn smaller_end(links: &[Link], end: usize, i: usize) -> usize
+    requires rising { AllPairs (λ a b. a.layer ≤ b.layer) links.now }
+    requires end { end ≤ i }
+    requires i { i < length links.now }
+    ensures end { result ≤ i }
+    ensures rest { (d : Link) → All (λ l. (slice_index_or links.now i d).layer ≤ l.layer) (drop result links.now) }
+{
+    if links[end].layer < links[i].layer {
+        i
+    } else {
+        end
+    }
+}
+
+/// The best contexts of some links of these layers, which agree on the zoom of each layer and the score of each feature and rise by layer.
 pub fn best_contexts(alloc: Global, layers: &Layers, links: &[Link]) -> Result<TopList, Memory>
     requires layers { All (λ l. l.layer < length layers.now) links.now }
     requires agree { Agree links.now }
+    requires rising { AllPairs (λ a b. a.layer ≤ b.layer) links.now }
     ensures { IfOk result (λ top. top ≡ best (compat layers.now) links.now) }
 {
     let mut top = TopList::new(alloc)?;
-    for link in links {
-        let rest = admitted(alloc, layers, link, links)?;
+    let mut end = 0;
+    for i in 0..links.len() {
+        let link = &links[i];
+        end = smaller_end(links, end, i);
+        let rest = admitted(alloc, layers, link, &links[..end])?;
         offer_with(alloc, layers, &mut top, &Context::new(*link), &rest)?;
     }
     Ok(top)

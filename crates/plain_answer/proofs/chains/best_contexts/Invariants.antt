@@ -1,4 +1,4 @@
-use Rattle.std.proofs.Common.{◌∷◌, [], take, filter}
+use Rattle.std.proofs.Common.{◌≤◌, ◌∷◌, [], take, filter}
 use Rattle.std.specs.Prelude.{flat_map}
 use Rattle.geo_base.specs.Link.{stacks}
 use Rattle.geo_layer.specs.Layer.{compat}
@@ -6,5 +6,8 @@ use Rattle.plain_answer.specs.Offered.{IsBestOf, with_more}
 use Rattle.plain_answer.proofs.chains.best_contexts.Given as goal
 
 -- the contexts whose target is one of the links so far
-abbrev pub invariant-loop-link : goal.invariant-loop-link
-invariant-loop-link l = IsBestOf l.links (flat_map (λ a. with_more (compat l.layers) 15 (a ∷ []) (filter (stacks (compat l.layers) a) l.links)) (take l.link-index l.links)) l.top
+abbrev pub invariant-loop-i : goal.invariant-loop-i
+invariant-loop-i l = record {
+  end : l.end ≤ l.i;
+  offered : IsBestOf l.links (flat_map (λ a. with_more (compat l.layers) 15 (a ∷ []) (filter (stacks (compat l.layers) a) l.links)) (take l.i l.links)) l.top;
+}
