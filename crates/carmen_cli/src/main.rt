@@ -26,9 +26,11 @@ const HELP: &str = "\
 carmen: a forward geocoder over layers of places
 
 usage:
-  carmen plain      read a session on standard input, and answer it on standard output
-  carmen --help     say this
-  carmen --version  say the version
+  carmen plain          read a session on standard input, and answer it on standard output
+  carmen --help, -h     say this
+  carmen --version, -V  say the version
+
+docs/FORMAT.md has the lines of a session, their faults and what they are answered with.
 
 example:
   $ printf 'carmen 1\\nlayer {\"name\":\"place\",\"zoom\":6}\\npublish\\nask 0 york\\nend\\n' | carmen plain
