@@ -12,27 +12,28 @@ use Rattle.session_text.specs.declared.status.Status.{Status}
 use Rattle.session_text.specs.declared.status.Status.TheVariants.{Done, Usage, BadLine, Unended, TooMuch, ReadFault, WriteFault, Memory}
 use Rattle.session_text.proofs.Advance.{not_yet}
 use Rattle.query_server.specs.Plain.{IsPlainText}
-use Rattle.query_server.specs.Promise.{Says, Moved, EndsAs, Decides, IsDecided, IsTextOf}
+use Rattle.query_server.specs.Promise.{Says, IsNear, Moved, EndsAs, Decides, IsDecided, IsTextOf}
 use Rattle.query_server.specs.Running.{IsAt, IsFit, IsStopped, IsWritten, reading_here}
 use Rattle.query_server.specs.declared.running.Running.{Running}
 
 -- ---- how a call ends
 
 -- it has ended within the bytes that were taken
-pub stopped : (limit : ℕ) (kind : Kind) (a b c d : Option (List ℕ)) (taken put : List ℕ) (status : Status) → Consumes a b taken → Appends c d put → length taken ≤ limit → IsStopped kind taken put status → EndsAs limit kind a b c d status
-stopped limit kind a b c d taken put status took wrote within says = (
+pub stopped : (limit : ℕ) (kind : Kind) (a b c d : Option (List ℕ)) (taken put : List ℕ) (status : Status) → Consumes a b taken → Appends c d put → length taken ≤ limit → IsStopped kind taken put status → IsNear kind taken → EndsAs limit kind a b c d status
+stopped limit kind a b c d taken put status took wrote within says near = (
   taken,
   put,
   false,
   record { took = took; wrote = wrote; within = within; at_end = λ e. absurd (cc e) },
   subst (λ bytes. Says limit false (length taken) status (reading 0 kind false bytes) put) (append-nil taken) (says limit (length taken) false []),
+  near,
 )
 
 -- the source has nothing left
-pub at_its_end : (limit : ℕ) (kind : Kind) (a b c d : Option (List ℕ)) (taken put : List ℕ) (status : Status) → Consumes a b taken → Appends c d put → length taken < limit → IsAtEnd b → ((most count : ℕ) → Says most true count status (reading 0 kind true taken) put)
+pub at_its_end : (limit : ℕ) (kind : Kind) (a b c d : Option (List ℕ)) (taken put : List ℕ) (status : Status) → Consumes a b taken → Appends c d put → length taken < limit → IsAtEnd b → ((most count : ℕ) → Says most true count status (reading 0 kind true taken) put) → IsNear kind taken
     → EndsAs limit kind a b c d status
-at_its_end limit kind a b c d taken put status took wrote short none says =
-    (taken, put, true, record { took = took; wrote = wrote; within = omega (arith, short); at_end = λ e. (none, short) }, says limit (length taken))
+at_its_end limit kind a b c d taken put status took wrote short none says near =
+    (taken, put, true, record { took = took; wrote = wrote; within = omega (arith, short); at_end = λ e. (none, short) }, says limit (length taken), near)
 
 -- the bytes that were taken have no `end` line yet, and what was written is a text of the closed rounds
 pub open_yet : (kind : Kind) (taken put : List ℕ) (r : Running) → IsAt kind taken put r → IsFit r → ((reading 0 kind false taken).ending ≡ unended) × IsTextOf (reading 0 kind false taken) put
@@ -47,13 +48,13 @@ open_yet kind taken put r at_here fits =
 pub failed : (limit : ℕ) (kind : Kind) (a b c d : Option (List ℕ)) (taken put : List ℕ) (r : Running) → Consumes a b taken → Appends c d put → length taken ≤ limit → IsAt kind taken put r → IsFit r → EndsAs limit kind a b c d ReadFault
 failed limit kind a b c d taken put r took wrote within at_here fits =
     let yet = open_yet kind taken put r at_here fits in
-    (taken, put, false, record { took = took; wrote = wrote; within = within; at_end = λ e. absurd (cc e) }, (refl, yet.0, yet.1))
+    (taken, put, false, record { took = took; wrote = wrote; within = within; at_end = λ e. absurd (cc e) }, (refl, yet.0, yet.1), (taken, [], sym (append-nil taken), omega arith, yet.0))
 
 -- as many bytes were taken as may be
 pub full : (limit : ℕ) (kind : Kind) (a b c d : Option (List ℕ)) (taken put : List ℕ) (r : Running) → Consumes a b taken → Appends c d put → length taken ≡ limit → IsAt kind taken put r → IsFit r → EndsAs limit kind a b c d TooMuch
 full limit kind a b c d taken put r took wrote count at_here fits =
     let yet = open_yet kind taken put r at_here fits in
-    (taken, put, false, record { took = took; wrote = wrote; within = omega (arith, count); at_end = λ e. absurd (cc e) }, (count, refl, yet.0, yet.1))
+    (taken, put, false, record { took = took; wrote = wrote; within = omega (arith, count); at_end = λ e. absurd (cc e) }, (count, refl, yet.0, yet.1), (taken, [], sym (append-nil taken), omega arith, yet.0))
 
 -- ---- without a fault the bytes of the source decide the status
 

@@ -41,11 +41,19 @@ Says limit ended count ReadFault read put = (ended ≡ false) × (read.ending �
 Says limit ended count WriteFault read put = (text : List ℕ) × IsTextOf read text × IsProperFront put text
 Says limit ended count Memory read put = (text : List ℕ) × IsTextOf read text × IsFront put text
 
+-- the most bytes that are asked for at once
+abbrev pub block_limit : ℕ
+block_limit = 65536
+
+-- nothing is read behind the end but what came with its block: before the last bytes, of one block at the most, no line is refused or `end`
+abbrev pub IsNear : Kind → List ℕ → Type 0
+IsNear kind taken = (before : List ℕ) × (last : List ℕ) × (taken ≡ before ++ last) × (length last ≤ block_limit) × ((reading 0 kind false before).ending ≡ unended)
+
 -- some bytes were taken and some written, as the status says
 abbrev pub EndsAs : ℕ → Kind → Option (List ℕ) → Option (List ℕ) → Option (List ℕ) → Option (List ℕ) → Status → Type 0
 EndsAs limit kind left left_after contents contents_after status =
     (taken : List ℕ) × (put : List ℕ) × (ended : Bool) × Moved limit left left_after contents contents_after taken put ended
-    × Says limit ended (length taken) status (reading 0 kind ended taken) put
+    × Says limit ended (length taken) status (reading 0 kind ended taken) put × IsNear kind taken
 
 -- the status that the ending of a reading decides; ended: all of the source was read
 abbrev pub Decides : Bool → Ending → Status → Type 0

@@ -1,11 +1,11 @@
-use Rattle.std.proofs.Common.{◌≡◌, ◌∙◌, ◌<◌, ◌≤◌, ◌+◌, ◌++◌, ◌-◌, ℕ, List, [], length, take, drop, Some, refl, sym, ap, subst, arith, rules}
+use Rattle.std.proofs.Common.{append-nil, ◌≡◌, ◌∙◌, ◌<◌, ◌≤◌, ◌+◌, ◌++◌, ◌-◌, ℕ, List, [], length, take, drop, Some, refl, sym, ap, subst, arith, rules}
 use Rattle.std.proofs.lemmas.Grind.{common_steps}
 use Rattle.std.proofs.lemmas.List.{length-append}
 use Rattle.std.specs.Io.KnownBytes.{Consumes, Appends}
 use Rattle.std.proofs.KnownBytes.{Consumes-trans, Consumes-kept, Appends-nil, Appends-trans, Consumes-nil}
 use Rattle.session_text.specs.declared.status.Status.TheVariants as status
 use Rattle.query_server.specs.Promise.{byte_limit}
-use Rattle.query_server.proofs.Outcome.{stopped, at_its_end, failed, full, decided_within, decided_at_end, decided_full, not_usage, not_read_fault, took_none, took_some, count_block, count_some, rose_earlier}
+use Rattle.query_server.proofs.Outcome.{open_yet, stopped, at_its_end, failed, full, decided_within, decided_at_end, decided_full, not_usage, not_read_fault, took_none, took_some, count_block, count_some, rose_earlier}
 use Rattle.query_server.proofs.run.run_plain.Goals as goal
 
 pub loop-taken-init : goal.loop-taken-init
@@ -34,7 +34,7 @@ returns-then-n-eq0-clause-session g c =
     let zero : c.in-Ok.n ≡ 0 = search (rules, arith) in
     let room : 0 < length c.read.new.buf = search (rules, arith) in
     let none = subst (λ n. Consumes (g.S.Source.left c.loop-taken.source) (g.S.Source.left c.read.new.self) (take n c.read.new.buf)) zero c.in-Ok.ensures.bytes.0 in
-    at_its_end _ _ _ _ _ _ m.0 (m.1 ++ says.0) c.end.result (took_none _ _ _ m.0 m.2 none) (Appends-trans _ _ _ _ _ m.3 says.1) short (c.in-Ok.ensures.bytes.1 zero room) says.2
+    at_its_end _ _ _ _ _ _ m.0 (m.1 ++ says.0) c.end.result (took_none _ _ _ m.0 m.2 none) (Appends-trans _ _ _ _ _ m.3 says.1) short (c.in-Ok.ensures.bytes.1 zero room) says.2 (m.0, [], sym (append-nil m.0), omega arith, (open_yet c.args.kind m.0 m.1 c.loop-taken.running m.5 inv.fits).0)
 
 pub returns-then-n-eq0-clause-decided : goal.returns-then-n-eq0-clause-decided
 returns-then-n-eq0-clause-decided g c =
@@ -57,8 +57,11 @@ returns-in-Some-clause-session g c =
     let few : c.in-Ok.n ≤ length c.read.new.buf = search (rules, arith) in
     let room : length c.read.new.buf ≤ byte_limit - c.loop-taken.taken = search (rules, arith) in
     let count = count_some m.0 c.read.new.buf rest c.in-Ok.n few in
+    let blk = count_block c.read.new.buf rest c.in-Ok.n few in
+    let small : length c.read.new.buf ≤ 65536 = search (rules, arith) in
     let within : length (m.0 ++ take c.in-Ok.n (c.read.new.buf ++ rest)) ≤ byte_limit = omega (arith, count, m.4, inv.within, few, room) in
     stopped _ _ _ _ _ _ (m.0 ++ take c.in-Ok.n (c.read.new.buf ++ rest)) (m.1 ++ goes.0) c.in-Some.status (took_some _ _ _ m.0 c.read.new.buf rest c.in-Ok.n few m.2 c.in-Ok.ensures.bytes.0) (Appends-trans _ _ _ _ _ m.3 goes.1) within goes.2
+    (m.0, take c.in-Ok.n (c.read.new.buf ++ rest), refl, omega (arith, blk, few, small), (open_yet c.args.kind m.0 m.1 c.loop-taken.running m.5 inv.fits).0)
 
 pub returns-in-Some-clause-usage : goal.returns-in-Some-clause-usage
 returns-in-Some-clause-usage g c =
