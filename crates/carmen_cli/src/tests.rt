@@ -597,6 +597,30 @@ fn slow_devices_change_nothing(rt: HostRuntime) -> Result<(), Fail> {
     Ok(())
 }
 
+#[test]
+fn a_slow_source_keeps_what_stands_behind_the_end(rt: HostRuntime) -> Result<(), Fail> {
+    let alloc = rt.alloc();
+    let words = words_of(alloc, &["plain"])?;
+    let unknown_word = Status::BadLine {
+        line: 9,
+        why: Why::Word,
+    };
+    for (line, wanted) in [("end\n", Status::Done), ("fly\n", unknown_word)] {
+        let mut session = BASE.as_bytes().to_vec(alloc)?;
+        session.extend_from_slice(line.as_bytes())?;
+        session.extend_from_slice(b"more")?;
+        let mut source = SlowSource {
+            source: MemorySource::new(session, Vec::new(alloc)),
+        };
+        let mut sink = MemorySink::new(alloc, Vec::new(alloc));
+        assert_eq!(rt; carmen(&rt, &words, &mut source, &mut sink), wanted);
+        let mut buf = *b"......";
+        assert_eq!(rt; source.source.read(&mut buf), Ok(4));
+        assert_eq!(rt; buf, *b"more..");
+    }
+    Ok(())
+}
+
 /// Sessions whose devices fail: what follows the published country and city, the calls that fail, the status, and whether
 /// what they are answered with is written.
 const FAILURES: [(&str, &[u64], &[u64], Status, bool); 7] = [
