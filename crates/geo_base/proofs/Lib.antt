@@ -8,3 +8,4 @@ pub mod ContextFacts
 pub mod AnswerFacts
 pub mod MergeFacts
 pub mod TileFacts
+pub mod BoxFacts

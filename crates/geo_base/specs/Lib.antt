@@ -2,6 +2,8 @@ pub mod TileView
 pub mod Tile
 pub mod TileBox
 pub mod LangCode
+pub mod LangSet
+pub mod Lists
 pub mod Link
 pub mod Chain
 pub mod Context
@@ -9,4 +11,5 @@ pub mod Order
 pub mod Best
 pub mod Answer
 pub mod Examples
+-- for private contracts alone
 pub mod Filled

@@ -11,7 +11,5 @@ pub mod laws;
 pub mod link;
 pub mod order;
 pub mod refusal;
-#[cfg(test)]
-mod tests;
 pub mod tile;
 pub mod tile_box;

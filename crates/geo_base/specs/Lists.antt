@@ -1,0 +1,7 @@
+-- Lists of numbers.
+use Rattle.std.specs.Prelude.{ℕ, ◌+◌, zero, suc, List, [], ◌∷◌}
+
+-- the n numbers from k on
+abbrev pub numbers_from : ℕ → ℕ → List ℕ
+numbers_from k zero = []
+numbers_from k (suc n) = k ∷ numbers_from (k + 1) n
