@@ -11,5 +11,3 @@ pub mod device;
 pub mod edge;
 pub mod memory;
 pub mod sure;
-#[cfg(test)]
-mod tests;
