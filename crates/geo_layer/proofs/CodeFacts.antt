@@ -1,14 +1,14 @@
 -- Codes of languages, and lists of them that differ.
-use Rattle.std.proofs.Common.{◌≡◌, ◌∙◌, ◌||◌, ◌&&◌, not, ◌<◌, ◌≤◌, ℕ, Bool, true, false, List, [], ◌∷◌, ◌++◌, length, nat_le, nat_lt, bytes_eq, refl, sym, ap, arith, length-append}
+use Rattle.std.proofs.Common.{◌≡◌, ◌∙◌, ◌||◌, ◌&&◌, not, ◌<◌, ◌≤◌, ℕ, Bool, true, false, List, [], ◌∷◌, ◌++◌, length, nat_le, nat_lt, bytes_eq, refl, sym, arith, length-append}
 use Rattle.std.specs.List.{list_all, list_any}
 use Rattle.std.proofs.lemmas.List.Sums.{AllPass-from_list_all, list_all-from_AllPass}
 use Rattle.std.proofs.lemmas.List.Folds.{list_any-append, list_all-append}
-use Rattle.std.proofs.lemmas.Bool.{and_parts, leb-true, le-leb, lt-leb}
+use Rattle.std.proofs.lemmas.Bool.{and_parts, leb-true, le-leb}
 use Rattle.std.proofs.lemmas.Bool.Decides.{nat_tests}
-use Rattle.std.proofs.lemmas.Slice.Eq.{bytes_eq-Decides}
 use Rattle.geo_text.specs.Tokens.{is_ascii}
 use Rattle.geo_base.specs.LangCode.{is_code_char, starts_with_letter, is_code}
 use Rattle.geo_layer.specs.Langs.{all_differ, are_langs}
+use Rattle.geo_layer.proofs.SameBytes.{bytes_eq-turned}
 
 -- what passes a test passes a weaker one
 weaker : (p q : ℕ → Bool) → ((b : ℕ) → p b ≡ true → q b ≡ true) → (bs : List ℕ) → list_all p bs ≡ true → list_all q bs ≡ true
@@ -34,16 +34,6 @@ no_code bs h = elim (is_code bs) as (λ b. is_code bs ≡ b → b ≡ false) [
 
 -- ---- one code more
 
--- the same bytes compared the other way round
-turned : (xs ys : List ℕ) → bytes_eq xs ys ≡ false → bytes_eq ys xs ≡ false
-turned xs ys h = elim (bytes_eq ys xs) as (λ b. bytes_eq ys xs ≡ b → b ≡ false) [
-  | true ↦ λ e.
-      let same : ys ≡ xs = (bytes_eq-Decides ys xs).0 e in
-      let bad : true ≡ false = sym e ∙ (ap (λ z. bytes_eq z xs) same ∙ (ap (bytes_eq xs) (sym same) ∙ h)) in
-      absurd (cc bad)
-  | false ↦ λ e. refl
-] refl
-
 -- a text that is none of them, after them
 differ_more : (xs : List (List ℕ)) (code : List ℕ) → all_differ xs ≡ true → list_any (bytes_eq code) xs ≡ false → all_differ (xs ++ code ∷ []) ≡ true
 differ_more [] code h none = refl
@@ -52,7 +42,7 @@ differ_more (x ∷ xs) code h none =
       | true ↦ λ e n. absurd (cc n)
       | false ↦ λ e n.
           let both = and_parts _ _ h in
-          rw (list_any-append (bytes_eq x) xs (code ∷ []), turned code x e, differ_more xs code both.1 n)
+          rw (list_any-append (bytes_eq x) xs (code ∷ []), sym (bytes_eq-turned code x) ∙ e, differ_more xs code both.1 n)
           (elim (list_any (bytes_eq x) xs) as (λ b. not b ≡ true → (not (b || false) && true) ≡ true) [ true ↦ λ bad. bad | false ↦ λ good. refl ] both.0)
     ] refl none
 
@@ -62,8 +52,7 @@ differ_less [] code more some = absurd (cc some)
 differ_less (x ∷ xs) code more some =
     elim (bytes_eq code x) as (λ b. bytes_eq code x ≡ b → (b || list_any (bytes_eq code) xs) ≡ true → all_differ ((x ∷ xs) ++ code ∷ more) ≡ false) [
       | true ↦ λ e s.
-          let same : code ≡ x = (bytes_eq-Decides code x).0 e in
-          let itself : bytes_eq x code ≡ true = ap (λ z. bytes_eq z code) (sym same) ∙ (ap (bytes_eq code) same ∙ e) in
+          let itself : bytes_eq x code ≡ true = sym (bytes_eq-turned code x) ∙ e in
           rw (list_any-append (bytes_eq x) xs (code ∷ more), itself)
           (elim (list_any (bytes_eq x) xs) as (λ b. (not (b || true) && all_differ (xs ++ code ∷ more)) ≡ false) [ true ↦ refl | false ↦ refl ])
       | false ↦ λ e s.
@@ -71,20 +60,7 @@ differ_less (x ∷ xs) code more some =
           (elim (list_any (bytes_eq x) (xs ++ code ∷ more)) as (λ b. (not b && false) ≡ false) [ true ↦ refl | false ↦ refl ])
     ] refl some
 
--- one more than is allowed, or one that is no code, or one that stands already
-pub too_many : (xs : List (List ℕ)) (code : List ℕ) (more : List (List ℕ)) → 127 ≡ length xs → are_langs (xs ++ code ∷ more) ≡ false
-too_many xs code more full =
-    let many : nat_le (length (xs ++ code ∷ more)) 127 ≡ false = lt-leb _ _ (omega (arith, full, length-append xs (code ∷ more))) in
-    rw many refl
-
-pub other_word : (xs : List (List ℕ)) (word : List ℕ) (more : List (List ℕ)) → is_code word ≡ false → are_langs (xs ++ word ∷ more) ≡ false
-other_word xs word more isnt =
-    rw (list_all-append is_code xs (word ∷ more), isnt)
-    (elim (nat_le (length (xs ++ word ∷ more)) 127) as (λ b. (b && ((list_all is_code xs && false) && all_differ (xs ++ word ∷ more))) ≡ false) [
-      | true ↦ elim (list_all is_code xs) as (λ b. ((b && false) && all_differ (xs ++ word ∷ more)) ≡ false) [ true ↦ refl | false ↦ refl ]
-      | false ↦ refl
-    ])
-
+-- one that stands already
 pub twice : (xs : List (List ℕ)) (code : List ℕ) (more : List (List ℕ)) → true ≡ list_any (bytes_eq code) xs → are_langs (xs ++ code ∷ more) ≡ false
 twice xs code more some =
     rw (differ_less xs code more (sym some))

@@ -10,12 +10,8 @@ use Rattle.geo_layer.specs.Json.{each_of, list_of}
 abbrev pub onto : {B : Type 0} → List B → Option (List B) → Option (List B)
 onto made rest = option_and_then (λ ys. Some (made ++ ys)) rest
 
-pub onto_nothing : {B : Type 0} (o : Option (List B)) → o ≡ onto [] o
-onto_nothing None = refl
-onto_nothing (Some ys) = refl
-
 -- one more is made before the rest
-pub onto_one : {B : Type 0} (made : List B) (y : B) (o : Option (List B)) → onto made (option_and_then (λ ys. Some (y ∷ ys)) o) ≡ onto (made ++ y ∷ []) o
+onto_one : {B : Type 0} (made : List B) (y : B) (o : Option (List B)) → onto made (option_and_then (λ ys. Some (y ∷ ys)) o) ≡ onto (made ++ y ∷ []) o
 onto_one made y None = refl
 onto_one made y (Some ys) = ap Some (sym (append_assoc made (y ∷ []) ys))
 
@@ -27,12 +23,6 @@ pub one_more : {A B : Type 0} (f : A → Option B) (xs : List A) (i : ℕ) (x : 
     → all ≡ onto made (each_of f (drop i xs)) → all ≡ onto (made ++ y ∷ []) (each_of f (drop (i + 1) xs))
 one_more f xs i x y made all within here is so_far =
     so_far ∙ (ap (λ l. onto made (each_of f l)) (at_drop xs i x within here) ∙ (ap (λ o. onto made (option_and_then (λ z. option_and_then (λ ys. Some (z ∷ ys)) (each_of f (drop (i + 1) xs))) o)) is ∙ onto_one made y _))
-
--- one value is refused
-pub refused : {A B : Type 0} (f : A → Option B) (xs : List A) (i : ℕ) (x : A) (made : List B) (all : Option (List B)) → i < length xs → x ≡ get_or xs i x → f x ≡ None
-    → all ≡ onto made (each_of f (drop i xs)) → all ≡ None
-refused f xs i x made all within here is so_far =
-    so_far ∙ (ap (λ l. onto made (each_of f l)) (at_drop xs i x within here) ∙ ap (λ o. onto made (option_and_then (λ z. option_and_then (λ ys. Some (z ∷ ys)) (each_of f (drop (i + 1) xs))) o)) is)
 
 -- items as a list are the list that they are made of
 pub list_of-items_of : (ds : List Data) → list_of (items_of ds) ≡ ds

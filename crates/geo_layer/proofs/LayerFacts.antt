@@ -14,7 +14,7 @@ use Rattle.serde_json.specs.View.{view, items_view}
 use Rattle.serde_json.specs.declared.value.Value.{Value}
 use Rattle.geo_text.specs.Numbers.{below}
 use Rattle.geo_layer.specs.Json.{each_of, list_of, optional}
-use Rattle.geo_layer.specs.Layer.{LayerView, IsLayer, AreLayers, is_name, is_stack}
+use Rattle.geo_layer.specs.Layer.{LayerView, IsLayer, AreLayers, is_name, are_stack_words}
 use Rattle.geo_layer.specs.LayerText.{last_zoom, name_of, stack_of}
 use Rattle.geo_layer.specs.declared.layer.LayerFault.TheVariants as fault
 use Rattle.geo_layer.proofs.Each.{list_of-items_of, each_of-map, each_of-length, each_of-passes}
@@ -82,27 +82,27 @@ many_values d vs is more =
     let none : stack_of_list (map view vs) ≡ None = rw (many, lt-leb (length vs) 64 more) refl in
     sym (ap (option_and_then (λ items. stack_of_list (list_of items))) (sym is) ∙ (ap stack_of_list (list_of-items_of (map view vs)) ∙ none))
 
-stack_of-is : (d : Data) (stack : Option (List (List ℕ))) → stack_of d ≡ Some stack → IfSome stack (λ words. is_stack words ≡ true)
+stack_of-is : (d : Data) (stack : Option (List (List ℕ))) → stack_of d ≡ Some stack → IfSome stack (λ words. are_stack_words words ≡ true)
 stack_of-is d stack is =
     option_and_then_some (λ items. stack_of_list (list_of items)) (as_array d) stack is
-    (λ items _ e. elim (nat_le (length (list_of items)) 64) as (λ b. nat_le (length (list_of items)) 64 ≡ b → (if b then option_map Some (each_of name_of (list_of items)) else None) ≡ Some stack → IfSome stack (λ words. is_stack words ≡ true)) [
-      | true ↦ λ few f. elim (each_of name_of (list_of items)) as (λ o. each_of name_of (list_of items) ≡ o → option_map Some o ≡ Some stack → IfSome stack (λ words. is_stack words ≡ true)) [
+    (λ items _ e. elim (nat_le (length (list_of items)) 64) as (λ b. nat_le (length (list_of items)) 64 ≡ b → (if b then option_map Some (each_of name_of (list_of items)) else None) ≡ Some stack → IfSome stack (λ words. are_stack_words words ≡ true)) [
+      | true ↦ λ few f. elim (each_of name_of (list_of items)) as (λ o. each_of name_of (list_of items) ≡ o → option_map Some o ≡ Some stack → IfSome stack (λ words. are_stack_words words ≡ true)) [
         | None ↦ λ q g. absurd (cc g)
         | Some words ↦ λ q g.
             let same : Some words ≡ stack = cc in
             let size = each_of-length name_of (list_of items) words q in
             let short = leb-true _ 64 few in
             let low : nat_le (length words) 64 ≡ true = le-leb (length words) 64 (omega (arith, size, short)) in
-            subst (λ s. IfSome s (λ words. is_stack words ≡ true)) same (rw (low, each_of-passes name_of is_name name_of-is (list_of items) words q) refl)
+            subst (λ s. IfSome s (λ words. are_stack_words words ≡ true)) same (rw (low, each_of-passes name_of is_name name_of-is (list_of items) words q) refl)
       ] refl f
       | false ↦ λ few f. absurd (cc f)
     ] refl e)
 
 -- what was read as a stack is one
-pub stack-is : (d : Option Data) (stack : Option (List (List ℕ))) → Ok stack ≡ optional stack_of None fault.Stack d → IfSome stack (λ words. is_stack words ≡ true)
-stack-is None stack is = let none : None ≡ stack = cc in subst (λ s. IfSome s (λ words. is_stack words ≡ true)) none tt
+pub stack-is : (d : Option Data) (stack : Option (List (List ℕ))) → Ok stack ≡ optional stack_of None fault.Stack d → IfSome stack (λ words. are_stack_words words ≡ true)
+stack-is None stack is = let none : None ≡ stack = cc in subst (λ s. IfSome s (λ words. are_stack_words words ≡ true)) none tt
 stack-is (Some d) stack is =
-    elim (stack_of d) as (λ o. stack_of d ≡ o → Ok stack ≡ elim o [ None ↦ Err fault.Stack | Some x ↦ Ok x ] → IfSome stack (λ words. is_stack words ≡ true)) [
+    elim (stack_of d) as (λ o. stack_of d ≡ o → Ok stack ≡ elim o [ None ↦ Err fault.Stack | Some x ↦ Ok x ] → IfSome stack (λ words. are_stack_words words ≡ true)) [
       | None ↦ λ q e. absurd (cc e)
-      | Some s ↦ λ q e. let same : s ≡ stack = cc in subst (λ s. IfSome s (λ words. is_stack words ≡ true)) same (stack_of-is d s q)
+      | Some s ↦ λ q e. let same : s ≡ stack = cc in subst (λ s. IfSome s (λ words. are_stack_words words ≡ true)) same (stack_of-is d s q)
     ] refl is

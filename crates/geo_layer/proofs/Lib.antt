@@ -1,3 +1,5 @@
 pub mod Each
+pub mod SameBytes
 mod CodeFacts
+mod Compatible
 mod LayerFacts

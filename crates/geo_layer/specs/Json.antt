@@ -1,5 +1,5 @@
 -- What bytes of JSON stand for, and looking into it.
-use Rattle.std.specs.Prelude.{ℕ, ℤ, List, [], ◌∷◌, Option, Some, None, option_and_then, if◌then◌else◌, Result, Ok, Err}
+use Rattle.std.specs.Prelude.{ℕ, ℤ, Bool, List, [], ◌∷◌, Option, Some, None, option_and_then, if◌then◌else◌, Result, Ok, Err}
 use Rattle.std.specs.Str.{is_utf8}
 use Rattle.serde_json.specs.Read.{read}
 use Rattle.serde_json.specs.Data.{Data, null, boolean, number, string, array, object, Items, no_items, item}
@@ -46,6 +46,10 @@ infixl 10 ◌>>=◌
 abbrev pub ◌>>=◌ : {A B E : Type 0} → Result A E → (A → Result B E) → Result B E
 (Ok x) >>= f = f x
 (Err e) >>= f = Err e
+
+-- the fault, unless the test holds
+abbrev pub wanted : {E : Type 0} → Bool → E → Result (Unit {0}) E
+wanted test fault = if test then Ok tt else Err fault
 
 -- a value that is there and of its form, or what stands for an absent one
 abbrev pub optional : {B E : Type 0} → (Data → Option B) → B → E → Option Data → Result B E

@@ -18,14 +18,14 @@ abbrev pub is_name : List ℕ → Bool
 is_name text = nat_le 1 (length text) && (nat_le (length text) 32 && list_all (λ c. is_in_range 97 122 c || (is_in_range 48 57 c || (c == 95 || c == 45))) text)
 
 -- words by which layers are stacked: at most 64 names
-abbrev pub is_stack : List (List ℕ) → Bool
-is_stack words = nat_le (length words) 64 && list_all is_name words
+abbrev pub are_stack_words : List (List ℕ) → Bool
+are_stack_words words = nat_le (length words) 64 && list_all is_name words
 
 -- what the type of a layer keeps
 pub record IsLayer (layer : LayerView) : Type 0 where
   pub name : is_name layer.name ≡ true
   pub zoom : layer.zoom ≤ 16
-  pub stack : IfSome layer.stack (λ words. is_stack words ≡ true)
+  pub stack : IfSome layer.stack (λ words. are_stack_words words ≡ true)
   pub scale : 1 ≤ layer.scoremax
   pub scale_bound : layer.scoremax ≤ 1000000000
   pub few : length layer.tokens ≤ 4096
@@ -38,14 +38,14 @@ pub record AreLayers (layers : List LayerView) : Type 0 where
   pub rising : AllPairs (λ a b. a.zoom ≤ b.zoom) layers
 
 -- the lists share a word; an absent list shares with every list, an empty one with an absent one alone
-abbrev pub share : Option (List (List ℕ)) → Option (List (List ℕ)) → Bool
-share None ys = true
-share (Some xs) None = true
-share (Some xs) (Some ys) = list_any (λ x. list_any (bytes_eq x) ys) xs
+abbrev pub share_word : Option (List (List ℕ)) → Option (List (List ℕ)) → Bool
+share_word None ys = true
+share_word (Some xs) None = true
+share_word (Some xs) (Some ys) = list_any (λ x. list_any (bytes_eq x) ys) xs
 
 -- two layers are compatible where their names differ and their stacks share a word
 abbrev pub are_compatible : LayerView → LayerView → Bool
-are_compatible a b = not (bytes_eq a.name b.name) && share a.stack b.stack
+are_compatible a b = not (bytes_eq a.name b.name) && share_word a.stack b.stack
 
 -- both layers are there and are compatible
 abbrev pub both_compatible : Option LayerView → Option LayerView → Bool

@@ -1,5 +1,5 @@
 -- The layer that a JSON text stands for, or its first fault.
-use Rattle.std.specs.Prelude.{ℕ, Bool, List, [], ◌∷◌, ◌&&◌, not, nat_lt, nat_le, length, codes, fold, map, if◌then◌else◌, Option, Some, None, option_and_then, option_map, is_some, Result, Ok, Err, ok_or}
+use Rattle.std.specs.Prelude.{ℕ, Bool, true, false, List, [], ◌∷◌, ◌&&◌, not, nat_lt, nat_le, length, codes, fold, map, if◌then◌else◌, Option, Some, None, option_and_then, option_map, is_some, Result, Ok, ok_or}
 use Rattle.std.specs.Cmp.Lexicographic.{slice_cmp}
 use Rattle.std.specs.Ordering.{match_ordering, nat_cmp}
 use Rattle.serde_json.specs.Data.{Data, Members, no_members}
@@ -7,7 +7,7 @@ use Rattle.serde_json.specs.Data as json
 use Rattle.serde_json.specs.Find.{as_str, as_array, as_object}
 use Rattle.geo_text.specs.Numbers.{below}
 use Rattle.geo_text.specs.Tokens.{Replacements, tokens_of}
-use Rattle.geo_layer.specs.Json.{data_of, member, natural_of, list_of, each_of, ◌>>=◌, optional}
+use Rattle.geo_layer.specs.Json.{data_of, member, natural_of, list_of, each_of, ◌>>=◌, wanted, optional}
 use Rattle.geo_layer.specs.Langs.{all_differ}
 use Rattle.geo_layer.specs.Layer.{LayerView, is_name}
 use Rattle.geo_layer.specs.declared.layer.LayerFault.{LayerFault}
@@ -59,17 +59,28 @@ layer_of_data before d =
     ok_or (as_object d) fault.Json >>= λ members.
     ok_or (option_and_then name_of (member (codes "name") d)) fault.Name >>= λ name.
     ok_or (option_and_then (below 17) (option_and_then natural_of (member (codes "zoom") d))) fault.Zoom >>= λ zoom.
-    (if nat_lt zoom (last_zoom before) then Err fault.Falling else Ok zoom) >>= λ zoom.
+    wanted (nat_le (last_zoom before) zoom) fault.Falling >>= λ _.
     optional stack_of None fault.Stack (member (codes "stack") d) >>= λ stack.
     optional replacements_of [] fault.Tokens (member (codes "tokens") d) >>= λ tokens.
-    (if nat_le 16 (length before) then Err fault.TooMany else Ok zoom) >>= λ zoom.
+    wanted (nat_lt (length before) 16) fault.TooMany >>= λ _.
     optional scale_of 15 fault.ScoreMax (member (codes "scoremax") d) >>= λ scoremax.
     Ok (record { name = name; zoom = zoom; stack = stack; scoremax = scoremax; tokens = tokens })
+
+-- the fault is found before any room is asked for
+abbrev pub needs_no_room : LayerFault → Bool
+needs_no_room fault.Json = true
+needs_no_room fault.Name = true
+needs_no_room fault.Zoom = true
+needs_no_room fault.Falling = true
+needs_no_room fault.Stack = false
+needs_no_room fault.Tokens = false
+needs_no_room fault.TooMany = false
+needs_no_room fault.ScoreMax = false
 
 -- the layer that bytes stand for after these layers, or its first fault
 abbrev pub layer_of : List LayerView → List ℕ → Result LayerView LayerFault
 layer_of before bytes = ok_or (data_of bytes) fault.Json >>= λ d. layer_of_data before d
 
 -- the value replaces no tokens and has the scale of scores that is meant where none is given
-abbrev pub is_simple : Data → Bool
-is_simple d = not (is_some (member (codes "tokens") d)) && not (is_some (member (codes "scoremax") d))
+abbrev pub is_simple_layer : Data → Bool
+is_simple_layer d = not (is_some (member (codes "tokens") d)) && not (is_some (member (codes "scoremax") d))

@@ -10,7 +10,7 @@ use std::alloc::Global;
 
 /// The value that the bytes stand for: None exactly where they aren't UTF-8 or no JSON text,
 /// which nests at most 127 deep. Memory may be refused in place of any answer.
-pub fn value_of(alloc: Global, bytes: &[u8]) -> Result<Option<Value>, Memory>
+pub fn read_json(alloc: Global, bytes: &[u8]) -> Result<Option<Value>, Memory>
     ensures { IfOk result (λ o. option_map view o ≡ data_of bytes.now) }
 {
     match Value::from_slice(alloc, bytes) {

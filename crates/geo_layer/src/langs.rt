@@ -1,6 +1,6 @@
 //! The listed languages, and their reading.
 
-ghost use Rattle.std.specs.Prelude.{◌≡◌, ◌<◌, ◌≤◌, ◌∷◌, ◌++◌, [], List, ℕ, length, true, false, None, Some, Err, OnOk, OnErr, IfOk, IfSome, MatchOption, bytes_eq, position};
+ghost use Rattle.std.specs.Prelude.{◌≡◌, ◌<◌, ◌≤◌, ◌∷◌, ◌++◌, [], List, ℕ, length, slice_get, true, false, None, Some, Err, OnOk, OnErr, IfOk, IfSome, MatchOption, bytes_eq, position};
 ghost use Rattle.std.specs.List.{list_any};
 ghost use Rattle.geo_base.specs.LangCode.{is_code};
 ghost use Rattle.geo_text.specs.Words.{words_of};
@@ -65,6 +65,14 @@ impl Langs {
         ensures are { are_langs self.now ≡ true }
     {
         self.list.len()
+    }
+
+    /// The code at a place, counted from 0.
+    pub fn at(&self, place: usize) -> &LangCode
+        requires { place < length self.now }
+        ensures { slice_get self.now place ≡ Some result.now }
+    {
+        &self.list[place]
     }
 
     /// Whether the code is listed.

@@ -1,11 +1,16 @@
-//! Worked languages and layers, computed from the definitions, as the contracts of functions that
-//! do nothing.
+//! Laws of the definitions, and worked languages and layers, as the contracts of functions that do nothing.
 
-ghost use Rattle.std.specs.Prelude.{◌≡◌, [], ◌∷◌, codes, Some, None, Ok, Err};
+ghost use Rattle.std.specs.Prelude.{◌≡◌, ℕ, List, [], ◌∷◌, codes, Some, None, Ok, Err};
+ghost use Rattle.geo_layer.specs.Layer.{LayerView, compat};
 ghost use Rattle.geo_layer.specs.Langs.{langs_of};
 ghost use Rattle.geo_layer.specs.LayerText.{layer_of};
 ghost use Rattle.geo_layer.specs.Examples.{plain, sixteen, stacked_text, stacked, street_text, street};
 ghost use Rattle.geo_layer.specs.declared.layer.LayerFault.TheVariants as fault;
+
+/// That two layers are compatible says the same of either order.
+pub fn compatible_is_symmetric()
+    ensures { (layers : List LayerView) (a b : ℕ) → compat layers a b ≡ compat layers b a }
+{}
 
 /// The languages that some lines list.
 pub fn worked_langs()

@@ -1,6 +1,6 @@
 //! Layers of features, and why a text stands for none.
 
-ghost use Rattle.std.specs.Prelude.{◌≡◌, ◌≤◌, true, None, [], IfOk, option_map};
+ghost use Rattle.std.specs.Prelude.{◌≡◌, ◌↔◌, IsTrue, ◌≤◌, true, None, [], IfOk, option_map};
 ghost use Rattle.geo_layer.specs.Layer.{LayerView, IsLayer, is_name};
 
 use geo_base::refusal::Memory;
@@ -31,14 +31,23 @@ pub enum LayerFault {
     ScoreMax,
 }
 
+impl LayerFault {
+    /// Whether the two are the same.
+    pub fn is(&self, other: &LayerFault) -> bool
+        ensures { IsTrue result ↔ (self.now ≡ other.now) }
+    {
+        self == other
+    }
+}
+
 /// A layer of features.
 #[derive(Drop)]
 pub struct Layer {
     name: Text,
-    zoom: u8,
     stack: Option<Tokens>,
-    scoremax: u32,
     tokens: TokenMap,
+    scoremax: u32,
+    zoom: u8,
 }
 
 impl Model for Layer {
@@ -62,8 +71,8 @@ impl Layer {
         Layer::from_parts(name, zoom, None, 15, TokenMap::new(alloc))
     }
 
-    /// The layer of these parts.
-    pub(crate) fn from_parts(
+    /// The layer of these parts, which keep what the type of a layer keeps.
+    pub fn from_parts(
         name: Text,
         zoom: u8,
         stack: Option<Tokens>,

@@ -2,7 +2,7 @@
 
 ghost use Rattle.std.specs.Prelude.{◌≡◌, ◌<◌, ◌≤◌, ◌∷◌, ◌++◌, [], length, slice_get, Some, OnOk, OnErr, IfOk, option_map, bytes_eq};
 ghost use Rattle.std.specs.List.{list_any};
-ghost use Rattle.geo_layer.specs.Layer.{AreLayers, compat, are_compatible, share};
+ghost use Rattle.geo_layer.specs.Layer.{AreLayers, compat, are_compatible, share_word};
 ghost use Rattle.geo_layer.specs.LayerText.{last_zoom};
 
 use crate::layer::Layer;
@@ -103,12 +103,12 @@ impl Layers {
 fn are_compatible(a: &Layer, b: &Layer) -> bool
     ensures { result ≡ are_compatible a.now b.now }
 {
-    a.name() != b.name() && share(a.stack(), b.stack())
+    a.name() != b.name() && share_word(a.stack(), b.stack())
 }
 
 /// Whether the stacks share a word, or one is absent.
-fn share(a: Option<&Tokens>, b: Option<&Tokens>) -> bool
-    ensures { result ≡ share (option_map (λ s. s.now) a.entry) (option_map (λ s. s.now) b.entry) }
+fn share_word(a: Option<&Tokens>, b: Option<&Tokens>) -> bool
+    ensures { result ≡ share_word (option_map (λ s. s.now) a.entry) (option_map (λ s. s.now) b.entry) }
 {
     match (a, b) {
         (Some(a), Some(b)) => have_one(a.as_slice(), b.as_slice()),

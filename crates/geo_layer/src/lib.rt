@@ -8,5 +8,3 @@ pub mod laws;
 pub mod layer;
 pub mod layers;
 pub mod read_layer;
-#[cfg(test)]
-mod tests;

@@ -8,11 +8,11 @@ ghost use Rattle.geo_base.specs.declared.refusal.Refused.TheVariants as refused;
 ghost use Rattle.geo_text.specs.Numbers.{below};
 ghost use Rattle.geo_layer.specs.Json.{data_of, member, natural_of, each_of, optional};
 ghost use Rattle.geo_layer.specs.Layer.{is_name};
-ghost use Rattle.geo_layer.specs.LayerText.{layer_of, layer_of_data, last_zoom, name_of, stack_of, is_simple};
+ghost use Rattle.geo_layer.specs.LayerText.{layer_of, layer_of_data, last_zoom, name_of, stack_of, is_simple_layer, needs_no_room};
 ghost use Rattle.geo_layer.specs.declared.layer.LayerFault.TheVariants as fault;
 ghost use Rattle.geo_layer.specs.declared.layer.LayerFault.{LayerFault};
 
-use crate::json::value_of;
+use crate::json::read_json;
 use crate::layer::{Layer, LayerFault};
 use crate::layers::Layers;
 use geo_base::refusal::{Memory, Refused};
@@ -23,8 +23,8 @@ use std::alloc::Global;
 
 /// Whether the value replaces no tokens and has the scale of scores that is meant where none is
 /// given: neither `tokens` nor `scoremax` is there.
-pub fn is_simple(value: &Value) -> bool
-    ensures { result ≡ is_simple (view value.now) }
+pub fn is_simple_layer(value: &Value) -> bool
+    ensures { result ≡ is_simple_layer (view value.now) }
 {
     value.get("tokens").is_none_or(Value::is_null)
         && value.get("scoremax").is_none_or(Value::is_null)
@@ -122,16 +122,18 @@ fn stack_in(alloc: Global, value: &Value) -> Result<Option<Option<Tokens>>, Memo
 /// Members that are null count as absent, of equal keys the last value stays, and other members
 /// play no part. The layer may be added to those before.
 ///
-/// Memory may be refused in place of any answer.
+/// Memory may be refused in place of any answer but the faults `Json`, `Name`, `Zoom` and `Falling`, which are found
+/// before any room is asked for.
 pub fn layer_of_value(
     alloc: Global,
     value: &Value,
     before: &Layers,
 ) -> Result<Layer, Refused<LayerFault>>
-    requires { is_simple (view value.now) ≡ true }
+    requires { is_simple_layer (view value.now) ≡ true }
     ensures layer { IfOk result (λ l. layer_of_data before.now (view value.now) ≡ Ok l) }
     ensures fits { IfOk result (λ l. (length before.now < 16) × (last_zoom before.now ≤ l.zoom)) }
     ensures fault { (e : LayerFault) → result ≡ Err (refused.Fault e) → layer_of_data before.now (view value.now) ≡ Err e }
+    ensures outright { (e : LayerFault) → needs_no_room e ≡ true → layer_of_data before.now (view value.now) ≡ Err e → result ≡ Err (refused.Fault e) }
 {
     if !value.is_object() {
         return Err(Refused::Fault(LayerFault::Json));
@@ -160,12 +162,12 @@ pub fn layer_of_value(
 ///
 /// Memory may be refused in place of any answer.
 pub fn read_layer(alloc: Global, line: &str, before: &Layers) -> Result<Layer, Refused<LayerFault>>
-    requires { IfSome (data_of line.now) (λ d. is_simple d ≡ true) }
+    requires { IfSome (data_of line.now) (λ d. is_simple_layer d ≡ true) }
     ensures layer { IfOk result (λ l. layer_of before.now line.now ≡ Ok l) }
     ensures fits { IfOk result (λ l. (length before.now < 16) × (last_zoom before.now ≤ l.zoom)) }
     ensures fault { (e : LayerFault) → result ≡ Err (refused.Fault e) → layer_of before.now line.now ≡ Err e }
 {
-    match value_of(alloc, line.as_bytes())? {
+    match read_json(alloc, line.as_bytes())? {
         Some(value) => layer_of_value(alloc, &value, before),
         None => Err(Refused::Fault(LayerFault::Json)),
     }

@@ -1,8 +1,8 @@
 -- The query that a line spells, or its first fault.
-use Rattle.std.specs.Prelude.{ℕ, Bool, true, List, [], ◌∷◌, ◌&&◌, ◌||◌, ◌==◌, ◌^◌, not, nat_eq, nat_lt, nat_le, length, codes, chars, bytes_eq, if◌then◌else◌, Option, Some, None, option_and_then, is_some, Result, Ok, Err}
+use Rattle.std.specs.Prelude.{ℕ, Bool, true, false, List, [], ◌∷◌, ◌&&◌, ◌||◌, ◌==◌, not, nat_eq, nat_lt, length, codes, chars, bytes_eq, if◌then◌else◌, Option, Some, None, option_and_then, is_some, Result, Ok, Err}
 use Rattle.std.specs.List.{list_all, list_any, before_first, after_first, find, starts_with}
 use Rattle.geo_base.specs.LangCode.{is_code}
-use Rattle.geo_base.specs.TileBox.{BoxView}
+use Rattle.geo_base.specs.TileBox.{BoxView, box_at}
 use Rattle.geo_text.specs.Numbers.{slashed}
 use Rattle.geo_text.specs.Tokens.{tokens_of}
 use Rattle.geo_text.specs.Words.{words_of}
@@ -19,27 +19,27 @@ abbrev pub query_text : List ℕ → List ℕ
 query_text line = if list_any (λ b. b == 124) line then after_first (λ b. b == 124) line else line
 
 -- the name of an option, which ends at the first equals sign
-abbrev pub name_of : List ℕ → List ℕ
-name_of word = before_first (λ b. b == 61) word
+abbrev pub name_part : List ℕ → List ℕ
+name_part word = before_first (λ b. b == 61) word
 
 -- the value of an option, which follows that sign
-abbrev pub value_of : List ℕ → List ℕ
-value_of word = after_first (λ b. b == 61) word
+abbrev pub value_part : List ℕ → List ℕ
+value_part word = after_first (λ b. b == 61) word
 
 -- the value of the option of this name, where there is one
 abbrev pub option_value : List ℕ → List (List ℕ) → Option (List ℕ)
-option_value name words = option_and_then (λ word. Some (value_of word)) (find (λ word. bytes_eq (name_of word) name) words)
+option_value name words = option_and_then (λ word. Some (value_part word)) (find (λ word. bytes_eq (name_part word) name) words)
 
 -- no name stands twice
 abbrev pub names_differ : List (List ℕ) → Bool
 names_differ [] = true
-names_differ (word ∷ words) = not (list_any (λ other. bytes_eq (name_of other) (name_of word)) words) && names_differ words
+names_differ (word ∷ words) = not (list_any (λ other. bytes_eq (name_part other) (name_part word)) words) && names_differ words
 
 -- the word is an option: `auto=0`, `auto=1`, `lang` with a code, or `box`, whose value is looked at later
 abbrev pub is_option : List ℕ → Bool
 is_option word =
     list_any (λ b. b == 61) word
-    && (bytes_eq word (codes "auto=0") || (bytes_eq word (codes "auto=1") || ((bytes_eq (name_of word) (codes "lang") && is_code (value_of word)) || bytes_eq (name_of word) (codes "box"))))
+    && (bytes_eq word (codes "auto=0") || (bytes_eq word (codes "auto=1") || ((bytes_eq (name_part word) (codes "lang") && is_code (value_part word)) || bytes_eq (name_part word) (codes "box"))))
 
 -- each word is an option, and no name stands twice
 abbrev pub options_fit : List (List ℕ) → Bool
@@ -47,7 +47,7 @@ options_fit words = list_all is_option words && names_differ words
 
 -- five numbers make a box
 abbrev pub box_of_numbers : List ℕ → Option BoxView
-box_of_numbers (z ∷ x0 ∷ y0 ∷ x1 ∷ y1 ∷ []) = if nat_le z 16 && (nat_le x0 x1 && (nat_le y0 y1 && (nat_lt x1 (2 ^ z) && nat_lt y1 (2 ^ z)))) then Some (record { z = z; x0 = x0; y0 = y0; x1 = x1; y1 = y1 }) else None
+box_of_numbers (z ∷ x0 ∷ y0 ∷ x1 ∷ y1 ∷ []) = box_at z x0 y0 x1 y1
 box_of_numbers numbers = None
 
 -- the box that a text `z/x0/y0/x1/y1` names
@@ -81,6 +81,14 @@ query_of line =
       lang = option_value (codes "lang") words;
       bounds = option_and_then box_of (option_value (codes "box") words);
     })
+
+-- the fault is found before any room is asked for
+abbrev pub needs_no_room : QueryFault → Bool
+needs_no_room fault.WrongOption = true
+needs_no_room fault.Box = true
+needs_no_room fault.Long = true
+needs_no_room fault.Empty = false
+needs_no_room fault.Tokens = false
 
 -- one of the options asks for a language
 abbrev pub asks_language : List ℕ → Bool

@@ -6,5 +6,3 @@ mod options;
 pub mod query;
 pub mod read_query;
 pub mod reply;
-#[cfg(test)]
-mod tests;

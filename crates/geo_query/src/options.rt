@@ -4,7 +4,7 @@ ghost use Rattle.std.specs.Prelude.{◌≡◌, ◌==◌, ◌∷◌, false, true,
 ghost use Rattle.std.specs.List.{list_all, list_any, before_first};
 ghost use Rattle.geo_base.specs.LangCode.{is_code};
 ghost use Rattle.geo_text.specs.Words.{words_of};
-ghost use Rattle.geo_query.specs.Query.{name_of, value_of, is_option, names_differ, options_fit, option_value, box_of_numbers, box_of, box_fits, is_auto};
+ghost use Rattle.geo_query.specs.Query.{name_part, value_part, is_option, names_differ, options_fit, option_value, box_of_numbers, box_of, box_fits, is_auto};
 
 use geo_base::lang_code::LangCode;
 use geo_base::tile_box::TileBox;
@@ -40,7 +40,7 @@ fn is_option(word: &[u8]) -> bool
 
 /// Whether one of these words has this name.
 fn has_name(words: &[u8], name: &[u8]) -> bool
-    ensures { result ≡ list_any (λ word. bytes_eq (name_of word) name.now) (words_of words.now) }
+    ensures { result ≡ list_any (λ word. bytes_eq (name_part word) name.now) (words_of words.now) }
 {
     let mut rest = words;
     while let Some((word, more)) = next_word(rest) {

@@ -1,6 +1,6 @@
 //! Queries, and why a line spells none.
 
-ghost use Rattle.std.specs.Prelude.{◌≡◌, option_map};
+ghost use Rattle.std.specs.Prelude.{◌≡◌, ◌↔◌, IsTrue, option_map};
 ghost use Rattle.geo_query.specs.QueryView.{QueryView, IsQuery};
 
 use geo_base::lang_code::LangCode;
@@ -24,13 +24,22 @@ pub enum QueryFault {
     Tokens,
 }
 
+impl QueryFault {
+    /// Whether the two are the same.
+    pub fn is(&self, other: &QueryFault) -> bool
+        ensures { IsTrue result ↔ (self.now ≡ other.now) }
+    {
+        self == other
+    }
+}
+
 /// A query: 1 to 20 tokens, none of them replaced yet, and what its options ask for.
 #[derive(Drop)]
 pub struct Query {
     tokens: Tokens,
-    auto: bool,
-    lang: Option<LangCode>,
     bounds: Option<TileBox>,
+    lang: Option<LangCode>,
+    auto: bool,
 }
 
 impl Model for Query {

@@ -1,8 +1,8 @@
 //! The query that a line spells.
 
-ghost use Rattle.std.specs.Prelude.{◌≡◌, IsAscii, IfOk, Ok, Err, length, chars, ◌==◌, position};
+ghost use Rattle.std.specs.Prelude.{◌≡◌, true, IsAscii, IfOk, Ok, Err, length, chars, ◌==◌, position};
 ghost use Rattle.geo_base.specs.declared.refusal.Refused.TheVariants as refused;
-ghost use Rattle.geo_query.specs.Query.{query_of, option_words, query_text};
+ghost use Rattle.geo_query.specs.Query.{query_of, option_words, query_text, needs_no_room};
 ghost use Rattle.geo_text.specs.Words.{words_of};
 ghost use Rattle.geo_query.specs.declared.query.QueryFault.{QueryFault};
 
@@ -61,11 +61,13 @@ fn text_of(line: &str) -> &str
 /// bar, the words before the first one are the options, and what follows it is the text; else
 /// the whole line is the text.
 ///
-/// Memory may be refused in place of any answer.
+/// Memory may be refused in place of any answer but the faults `WrongOption`, `Box` and `Long`, which are found before
+/// any room is asked for.
 pub fn read_query(alloc: Global, line: &str) -> Result<Query, Refused<QueryFault>>
     requires { IsAscii line.now }
     ensures ok { IfOk result (λ q. query_of line.now ≡ Ok q) }
     ensures fault { (fault : QueryFault) → result ≡ Err (refused.Fault fault) → query_of line.now ≡ Err fault }
+    ensures outright { (fault : QueryFault) → needs_no_room fault ≡ true → query_of line.now ≡ Err fault → result ≡ Err (refused.Fault fault) }
 {
     let words = options_of(line.as_bytes());
     if !options_fit(words) {

@@ -4,12 +4,12 @@ use Rattle.std.specs.Char.{is_ascii_digit}
 use Rattle.std.specs.List.{list_all, slice_split}
 
 -- the value of these digits
-abbrev pub value_of : List ℕ → ℕ
-value_of digits = fold (λ n d. n * 10 + (d - 48)) 0 digits
+abbrev pub digits_value : List ℕ → ℕ
+digits_value digits = fold (λ n d. n * 10 + (d - 48)) 0 digits
 
 -- a number is 1 to 10 digits, leading zeros allowed
 abbrev pub number_of : List ℕ → Option ℕ
-number_of text = if nat_le 1 (length text) && (nat_le (length text) 10 && list_all is_ascii_digit text) then Some (value_of text) else None
+number_of text = if nat_le 1 (length text) && (nat_le (length text) 10 && list_all is_ascii_digit text) then Some (digits_value text) else None
 
 -- the number, where it is below the bound
 abbrev pub below : ℕ → ℕ → Option ℕ

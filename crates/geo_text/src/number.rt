@@ -19,20 +19,3 @@ pub fn number(text: &[u8]) -> Option<u64>
     }
     Some(n)
 }
-
-#[cfg(test)]
-mod tests {
-    use super::*;
-    use std::test::Fail;
-
-    #[test]
-    fn reads_one_to_ten_digits(rt: HostRuntime) -> Result<(), Fail> {
-        assert_eq!(rt; number(b"0007"), Some(7));
-        assert_eq!(rt; number(b"9999999999"), Some(9_999_999_999));
-        assert_eq!(rt; number(b"12345678901"), None);
-        assert_eq!(rt; number(b""), None);
-        assert_eq!(rt; number(b"+1"), None);
-        assert_eq!(rt; number(b"1 "), None);
-        Ok(())
-    }
-}

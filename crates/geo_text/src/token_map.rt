@@ -1,6 +1,6 @@
 //! What tokens are replaced by.
 
-ghost use Rattle.std.specs.Prelude.{◌≡◌, [], length, IfOk, OnOk, OnErr, option_map, bytes_eq, Option, Some, ℕ, List, if◌then◌else◌};
+ghost use Rattle.std.specs.Prelude.{◌≡◌, ◌<◌, [], length, slice_get, IfOk, OnOk, OnErr, option_map, bytes_eq, Option, Some, ℕ, List, if◌then◌else◌};
 ghost use Rattle.geo_text.specs.Tokens.{replacement, AreWords, Rise};
 ghost use Rattle.geo_text.specs.Words.{IsWord};
 
@@ -47,6 +47,18 @@ impl TokenMap {
         self.words.len()
     }
 
+    /// The token at a place in the order of their bytes, counted from 0, and what it is replaced by. It goes past those
+    /// before it.
+    pub fn at(&self, place: usize) -> (&str, &str)
+        requires { place < length self.now }
+        ensures { slice_get self.now place ≡ Some (result.0.now, result.1.now) }
+    {
+        match self.words.iter().nth(place) {
+            Some((token, text)) => (token.as_str(), text.as_str()),
+            None => unreachable!(),
+        }
+    }
+
     /// What the token is replaced by; None where it stays as it is.
     pub fn get(&self, token: &str) -> Option<&str>
         ensures { option_map (λ t. t.now) result ≡ replacement self.now token.now }
@@ -76,37 +88,5 @@ impl TokenMap {
         Ok(TokenMap {
             words: self.words.clone()?,
         })
-    }
-}
-
-#[cfg(test)]
-mod tests {
-    use super::*;
-    use crate::cut::is_word;
-    use std::test::Fail;
-
-    /// The text, where it is a word.
-    fn word(alloc: Global, text: &str) -> Result<Text, Fail>
-        ensures { IfOk result (λ t. IsWord t) }
-    {
-        if !is_word(text.as_bytes()) {
-            return Err(Fail::from("no word"));
-        }
-        Ok(Text::of(alloc, text)?)
-    }
-
-    #[test]
-    fn keeps_the_last_replacement(rt: HostRuntime) -> Result<(), Fail> {
-        let alloc = rt.alloc();
-        let mut replace = TokenMap::new(alloc);
-        replace.insert(word(alloc, "street")?, word(alloc, "st")?)?;
-        replace.insert(word(alloc, "avenue")?, word(alloc, "av")?)?;
-        replace.insert(word(alloc, "street")?, word(alloc, "str")?)?;
-        let copy = replace.copy()?;
-        assert_eq!(rt; copy.len(), 2);
-        assert_eq!(rt; copy.get("street"), Some("str"));
-        assert_eq!(rt; copy.get("avenue"), Some("av"));
-        assert_eq!(rt; copy.get("st"), None);
-        Ok(())
     }
 }
