@@ -2,7 +2,7 @@ mod CollectedFacts
 mod Tables
 mod Rows
 mod TileTexts
-pub mod Each
+mod Listed
 mod SimpleFacts
 mod Rising
 mod PhraseFacts

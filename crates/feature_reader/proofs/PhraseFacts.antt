@@ -6,7 +6,7 @@ use Rattle.std.proofs.lemmas.Bool.{and_parts, leb-true, not-true}
 use Rattle.std.proofs.lemmas.List.Elements.{All-nil, All-cons, All-head, All-tail, All-filter, All-map, All-weaker, filter_passes}
 use Rattle.std.proofs.lemmas.List.Kept.{AllPairs-cons, AllPairs-filter}
 use Rattle.std.proofs.lemmas.Map.Entries.{All-lookup}
-use Rattle.geo_base.specs.TileView.{TileView}
+use Rattle.geo_base.specs.TileView.{TileView, IsTile}
 use Rattle.geo_text.specs.Tokens.{Replacements, AreWords, tokens_of, replacement, replaced, joined, are_some_tokens}
 use Rattle.geo_text.specs.Words.{IsWord}
 use Rattle.geo_text.specs.Parts.{pieces, ranked}
@@ -17,7 +17,7 @@ use Rattle.feature_reader.specs.Tiles.{rising}
 use Rattle.feature_reader.specs.Feature.{phrases_of, same_phrase, distinct}
 use Rattle.feature_reader.specs.declared.phrase.Phrase.{Phrase}
 use Rattle.feature_reader.proofs.CollectedFacts.{same_itself}
-use Rattle.feature_reader.proofs.Rising.{rising-pairs, rising-length, rising-zoom}
+use Rattle.feature_reader.proofs.Rising.{rising-pairs, rising-length, rising_all, rising-zoom}
 
 -- ---- replaced tokens are words
 
@@ -89,9 +89,9 @@ phrases_are r text words =
     distinct_all IsPhrase (phrases_of r 100 text all_languages) (ranked_phrases _ (kept_words (map (λ piece. replaced r (tokens_of piece)) (pieces text)) (All-map (λ tokens. All IsWord tokens) (λ piece. replaced r (tokens_of piece)) (pieces text) (λ i d within. replaced_words r words (tokens_of _) (tokens_are_words _)))))
 
 -- the parts make a feature
-pub is_feature : (id score zoom : ℕ) (r : Replacements) (text : List ℕ) (ts : List TileView) → id < 67108864 → score < 16 → AreWords r → list_all (λ t. t.z == zoom) ts ≡ true → 0 < length ts → length ts ≤ 4096
+pub is_feature : (id score zoom : ℕ) (r : Replacements) (text : List ℕ) (ts : List TileView) → id < 67108864 → score < 16 → AreWords r → list_all (λ t. t.z == zoom) ts ≡ true → All IsTile ts → 0 < length ts → length ts ≤ 4096
     → IsFeature (record { id = id; score = score; phrases = distinct (phrases_of r 100 text all_languages); tiles = rising ts })
-is_feature id score zoom r text ts low level words all some few =
+is_feature id score zoom r text ts low level words all tiles some few =
     let size = rising-length ts in
     let phrases = phrases_are r text words in
     record {
@@ -102,6 +102,7 @@ is_feature id score zoom r text ts low level words all some few =
       distinct = distinct_pairs (phrases_of r 100 text all_languages);
       some = omega (arith, size, some);
       few = omega (arith, size, few);
+      tiles = rising_all IsTile ts tiles;
       rising = rising-pairs ts;
       one_zoom = rising-zoom zoom ts all;
     }

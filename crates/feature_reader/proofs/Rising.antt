@@ -1,5 +1,5 @@
 -- Tiles of one zoom in their order, each once.
-use Rattle.std.proofs.Common.{is_lt, ◌≡◌, ◌∙◌, ◌+◌, ◌<◌, ◌≤◌, ℕ, Bool, true, ◌&&◌, ◌⊎◌, inl, inr, ⊎_elim, List, [], ◌∷◌, length, get_or, refl, sym, ap, ap₂, subst, arith}
+use Rattle.std.proofs.Common.{is_lt, ◌≡◌, ◌∙◌, ◌+◌, ◌<◌, ◌≤◌, ℕ, Bool, true, ◌&&◌, ◌⊎◌, inl, inr, ⊎_elim, All, List, [], ◌∷◌, length, get_or, refl, sym, ap, ap₂, subst, arith}
 use Rattle.std.specs.Prelude.{AllPairs, Contains}
 use Rattle.std.specs.List.{AllByRecursion, dedup, list_all}
 use Rattle.std.specs.List.Sorted.{IsStrictlySortedBy, IsSorted, IsPermutation}
@@ -9,6 +9,7 @@ use Rattle.std.specs.Cmp.{IsTotalOrder, IsEquivalence, nat_cmp_is}
 use Rattle.std.specs.declared.cmp.Ordering.{Ordering}
 use Rattle.std.specs.declared.cmp.Ordering.TheVariants.{Less, Equal, Greater}
 use Rattle.std.proofs.lemmas.Cmp.{then_total, on_total, nat_cmp_total, ranked, and_equiv, on_equiv, nat_eq_equiv}
+use Rattle.std.proofs.lemmas.List.Elements.{All-cons, All-head, All-tail}
 use Rattle.std.proofs.lemmas.List.Kept.{AllPairs-cons, Contains-dedup, Contains-from_dedup, IsStrictlySortedBy-dedup}
 use Rattle.std.proofs.lemmas.List.Sorted.{Contains-permutation, IsPermutation-sym}
 use Rattle.std.proofs.lemmas.Bool.{and_parts}
@@ -245,6 +246,20 @@ with_tile-length t (u ∷ us) =
 pub rising-length : (ts : List TileView) → (0 < length ts → 0 < length (rising ts)) × (length (rising ts) ≤ length ts)
 rising-length [] = (λ h. h, omega arith)
 rising-length (t ∷ ts) = (λ h. (with_tile-length t (rising ts)).0, omega (arith, (with_tile-length t (rising ts)).1, (rising-length ts).1))
+
+with_tile_all : (P : TileView → Type 0) (t : TileView) (ts : List TileView) → P t → All P ts → All P (with_tile t ts)
+with_tile_all P t [] one all = All-cons P t [] one all
+with_tile_all P t (u ∷ us) one all = by_order (with_tile_all P t us one (All-tail P u us all)) (tile_cmp t u) refl
+  where
+    by_order : All P (with_tile t us) → (o : Ordering) → tile_cmp t u ≡ o → All P (with_tile t (u ∷ us))
+    by_order later Less e = rw e (All-cons P t (u ∷ us) one all)
+    by_order later Equal e = rw e all
+    by_order later Greater e = rw e (All-cons P u (with_tile t us) (All-head P u us all) later)
+
+-- what holds of all tiles holds of them in their order
+pub rising_all : (P : TileView → Type 0) (ts : List TileView) → All P ts → All P (rising ts)
+rising_all P [] all = all
+rising_all P (t ∷ ts) all = with_tile_all P t (rising ts) (All-head P t ts all) (rising_all P ts (All-tail P t ts all))
 
 -- they have the one zoom
 pub rising-zoom : (z : ℕ) (ts : List TileView) → list_all (λ t. t.z == z) ts ≡ true → AllPairs (λ t u. t.z ≡ u.z) (rising ts)

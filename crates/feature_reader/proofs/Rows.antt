@@ -17,7 +17,7 @@ use Rattle.feature_reader.specs.FeatureView.{FeatureView}
 use Rattle.feature_reader.specs.declared.table.Place.{Place}
 use Rattle.feature_reader.specs.declared.taker.PutFault.{PutFault}
 use Rattle.feature_reader.specs.declared.taker.Taken.{Taken}
-use Rattle.feature_reader.specs.declared.taker.PutFault.TheVariants.{TooManyFeatures, TooManyRows}
+use Rattle.feature_reader.specs.declared.taker.PutFault.TheVariants.{TooManyRows}
 use Rattle.feature_reader.specs.declared.taker.Taken.TheVariants.{New, Changed}
 use Rattle.feature_reader.specs.Table.{Table, entry_of, is_at, comes_before, without, inserted, with_feature, stands, rows_of, rows, most_features, most_rows, is_one_too_many, put_answer, IsWithinLimits}
 use Rattle.feature_reader.proofs.Tables.{Entries, AtIds, place_cmp, told_as, later_same, none_left_out, stands_is}
@@ -138,9 +138,6 @@ room_found k es g ids sorted found few =
 
 pub room_left : (k : Place) (es : Entries) → AtIds es → IsStrictlySortedBy place_cmp (keys_of es) → length (map entry_of es) < most_features → length (without (map entry_of es) k.layer k.id) < most_features
 room_left k es ids sorted less = omega (arith, length_without k es ids sorted, less)
-
-pub too_many_features : (table : Table) (layer : ℕ) (f : FeatureView) → is_one_too_many table layer f.id ≡ true → put_answer table layer f ≡ Err TooManyFeatures
-too_many_features table layer f is = rw is refl
 
 pub too_many_rows : (table : Table) (layer : ℕ) (f : FeatureView) → is_one_too_many table layer f.id ≡ false → most_rows < rows (with_feature table layer f) → put_answer table layer f ≡ Err TooManyRows
 too_many_rows table layer f isnt more = rw (isnt, lt-ltb most_rows (rows (with_feature table layer f)) more) refl

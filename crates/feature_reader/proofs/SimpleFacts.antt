@@ -1,26 +1,26 @@
 -- What is simple: no text in a language, no relevance, and a text of ASCII.
 use Rattle.std.proofs.Common.{◌≡◌, ◌∙◌, ℕ, Bool, true, false, cond, not, List, [], ◌∷◌, ◌++◌, ◌&&◌, ◌||◌, refl, sym, ap, arith, Option, Some, None, Ok, IsAscii}
-use Rattle.std.specs.Prelude.{String, string_bytes, codes, option_and_then, is_some, bytes_eq, nat_eq, drop, MatchBool}
+use Rattle.std.specs.Prelude.{String, string_bytes, codes, is_some, bytes_eq, nat_eq, drop, MatchBool}
 use Rattle.std.specs.List.{list_all, starts_with}
 use Rattle.std.specs.Str.{IsNotAscii}
 use Rattle.std.specs.Ordering.{nat_cmp, match_ordering, is_eq}
 use Rattle.std.specs.declared.cmp.Ordering.TheVariants.{Less, Equal, Greater}
 use Rattle.std.specs.Cmp.Lexicographic.{slice_cmp}
 use Rattle.std.specs.declared.alloc.Global.{Global}
-use Rattle.std.proofs.lemmas.Bool.{and_parts, and_from}
+use Rattle.std.proofs.lemmas.Bool.{and_parts}
 use Rattle.std.proofs.lemmas.Bool.Decides.{nat_tests, Decides-eqb}
 use Rattle.std.proofs.lemmas.Slice.Eq.{bytes_eq-Decides, starts_is}
 use Rattle.std.proofs.lemmas.Map.Text.{is_eq-slice_cmp}
 use Rattle.serde_json.specs.Data.{Data, null, boolean, number, string, array, object, Members, no_members}
 use Rattle.serde_json.specs.Data as json
-use Rattle.serde_json.specs.Find.{as_str, get_member}
+use Rattle.serde_json.specs.Find.{get_member}
 use Rattle.serde_json.specs.declared.value.Value.{Value}
 use Rattle.serde_json.specs.View.{view, members_view}
 use Rattle.geo_base.specs.LangCode.{is_code}
 use Rattle.geo_text.proofs.Ascii.{is_ascii-true, is_ascii-false}
 use Rattle.geo_layer.specs.Json.{present}
-use Rattle.feature_reader.specs.Feature.{text_code, own_text, own_texts, properties_of}
-use Rattle.feature_reader.specs.Simple.{is_simple, are_simple, is_simple_member, is_simple_text, has_simple_members}
+use Rattle.feature_reader.specs.Feature.{text_code, own_text, own_texts}
+use Rattle.feature_reader.specs.Simple.{is_simple_member, is_simple_text, has_simple_members}
 
 -- each member is simple
 pub simple_members : (ms : List (String Global × Value)) → list_all (λ m. is_simple_member (string_bytes m.0) (present (Some (view m.1)))) ms ≡ has_simple_members (members_view ms)

@@ -1,4 +1,4 @@
--- The phrases of a text in every language, collected part after part.
+-- For private contracts alone: the phrases of a text in every language, collected part after part.
 use Rattle.std.specs.Prelude.{◌≡◌, ℕ, List, [], ◌∷◌, ◌++◌, if◌then◌else◌, String}
 use Rattle.std.specs.List.{list_any}
 use Rattle.std.specs.BTreeSet.{BTreeSet, contains_text}

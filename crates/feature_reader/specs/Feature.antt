@@ -1,5 +1,5 @@
 -- The feature that a JSON text stands for in a layer, or its first fault.
-use Rattle.std.specs.Prelude.{ℕ, ℤ, pos, negsuc, ◌+◌, ◌-◌, ◌*◌, ◌/◌, Bool, List, [], ◌∷◌, ◌++◌, ◌&&◌, ◌||◌, ◌==◌, not, min, nat_eq, drop, codes, bytes_eq, filter, flat_map, map, if◌then◌else◌, Option, Some, None, option_and_then, Result, Ok, Err, ok_or}
+use Rattle.std.specs.Prelude.{ℕ, ℤ, pos, negsuc, ◌+◌, ◌-◌, ◌*◌, ◌/◌, Bool, true, false, List, [], ◌∷◌, ◌++◌, ◌&&◌, ◌||◌, ◌==◌, not, min, nat_eq, drop, codes, bytes_eq, filter, flat_map, map, if◌then◌else◌, Option, Some, None, option_and_then, Result, Ok, Err, ok_or}
 use Rattle.std.specs.List.{list_all, starts_with}
 use Rattle.serde_json.specs.Data.{Data, Members, no_members}
 use Rattle.serde_json.specs.Data as json
@@ -8,7 +8,7 @@ use Rattle.geo_base.specs.LangCode.{is_code}
 use Rattle.geo_text.specs.Numbers.{below}
 use Rattle.geo_text.specs.Tokens.{Replacements, joined}
 use Rattle.geo_text.specs.Parts.{parts}
-use Rattle.geo_layer.specs.Json.{data_of, present, member, whole_of, natural_of, ◌>>=◌, optional}
+use Rattle.geo_layer.specs.Json.{data_of, present, member, whole_of, natural_of, ◌>>=◌, wanted, optional}
 use Rattle.geo_layer.specs.Layer.{LayerView}
 use Rattle.feature_reader.specs.Languages.{bits_of, other_languages}
 use Rattle.feature_reader.specs.Tiles.{tiles_of, rising}
@@ -66,7 +66,7 @@ feature_in layer langs d members =
     ok_or (option_and_then as_str (present (get_member (codes "carmen:text") members))) fault.Text >>= λ text.
     own_texts members >>= λ own.
     ok_or (tiles_of (present (get_member (codes "carmen:zxy") members))) fault.Zxy >>= λ tiles.
-    (if list_all (λ t. t.z == layer.zoom) tiles then Ok tiles else Err fault.Zoom) >>= λ tiles.
+    wanted (list_all (λ t. t.z == layer.zoom) tiles) fault.Zoom >>= λ _.
     optional whole_of (pos 0) fault.Score (present (get_member (codes "carmen:score") members)) >>= λ score.
     optional relevance_of 100 fault.Relev (present (get_member (codes "carmen:relev") members)) >>= λ cap.
     Ok (record { id = id; score = level layer.scoremax score; phrases = all_phrases layer.tokens langs cap text own; tiles = rising tiles })
@@ -78,6 +78,16 @@ properties_of d = option_and_then as_object (member (codes "properties") d)
 -- the feature of a layer that a value stands for, or its first fault
 abbrev pub feature_of_data : LayerView → List (List ℕ) → Data → Result FeatureView FeatureFault
 feature_of_data layer langs d = ok_or (properties_of d) fault.Json >>= λ members. feature_in layer langs d members
+
+-- the fault is found before any room is asked for
+abbrev pub needs_no_room : FeatureFault → Bool
+needs_no_room fault.Json = true
+needs_no_room fault.Id = true
+needs_no_room fault.Text = true
+needs_no_room fault.Zxy = false
+needs_no_room fault.Zoom = false
+needs_no_room fault.Score = false
+needs_no_room fault.Relev = false
 
 -- the feature of a layer that bytes stand for, or its first fault
 abbrev pub feature_of : LayerView → List (List ℕ) → List ℕ → Result FeatureView FeatureFault

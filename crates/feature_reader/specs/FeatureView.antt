@@ -3,7 +3,7 @@ use Rattle.std.specs.Prelude.{◌≡◌, ◌≢◌, ℕ, ◌<◌, ◌≤◌, ◌
 use Rattle.std.specs.Ordering.{nat_cmp, ordering_then}
 use Rattle.std.specs.declared.cmp.Ordering.{Ordering}
 use Rattle.std.specs.declared.cmp.Ordering.TheVariants.{Less}
-use Rattle.geo_base.specs.TileView.{TileView}
+use Rattle.geo_base.specs.TileView.{TileView, IsTile}
 use Rattle.geo_text.specs.Tokens.{joined}
 use Rattle.geo_text.specs.Words.{IsWord}
 use Rattle.feature_reader.specs.declared.phrase.Phrase.{Phrase}
@@ -45,5 +45,6 @@ pub record IsFeature (f : FeatureView) : Type 0 where
   pub distinct : AllPairs (λ p q. p ≢ q) f.phrases
   pub some : 0 < length f.tiles
   pub few : length f.tiles ≤ 4096
+  pub tiles : All IsTile f.tiles
   pub rising : AllPairs (λ t u. tile_cmp t u ≡ Less) f.tiles
   pub one_zoom : AllPairs (λ t u. t.z ≡ u.z) f.tiles

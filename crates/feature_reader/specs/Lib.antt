@@ -2,7 +2,8 @@ pub mod Tiles
 pub mod Languages
 pub mod FeatureView
 pub mod Feature
-pub mod Collected
 pub mod Simple
 pub mod Table
 pub mod Examples
+-- for private contracts alone
+pub mod Collected

@@ -28,5 +28,5 @@ are_simple None = true
 are_simple (Some members) = has_simple_members members && is_simple_text (option_and_then as_str (present (get_member (codes "carmen:text") members)))
 
 -- the value asks for nothing but texts of ASCII without a language, of the usual relevances
-abbrev pub is_simple : Data → Bool
-is_simple d = are_simple (properties_of d)
+abbrev pub is_simple_feature : Data → Bool
+is_simple_feature d = are_simple (properties_of d)

@@ -1,16 +1,12 @@
 -- Tiles as texts, and the tiles of a feature.
-use Rattle.std.specs.Prelude.{ℕ, ◌^◌, List, [], ◌∷◌, ◌&&◌, nat_lt, nat_le, length, if◌then◌else◌, Option, Some, None, option_and_then}
+use Rattle.std.specs.Prelude.{ℕ, List, [], ◌∷◌, ◌&&◌, nat_le, length, if◌then◌else◌, Option, None, option_and_then}
 use Rattle.std.specs.Ordering.{match_ordering}
 use Rattle.serde_json.specs.Data.{Data}
 use Rattle.serde_json.specs.Find.{as_str, as_array}
-use Rattle.geo_base.specs.TileView.{TileView}
+use Rattle.geo_base.specs.TileView.{TileView, tile_at}
 use Rattle.geo_text.specs.Numbers.{slashed}
 use Rattle.geo_layer.specs.Json.{list_of, each_of}
 use Rattle.feature_reader.specs.FeatureView.{tile_cmp}
-
--- the tile at this zoom, column and row, where there is one
-abbrev pub tile_at : ℕ → ℕ → ℕ → Option TileView
-tile_at z x y = if nat_le z 16 && (nat_lt x (2 ^ z) && nat_lt y (2 ^ z)) then Some (record { z = z; x = x; y = y }) else None
 
 -- three numbers make a tile
 abbrev pub tile_of_numbers : List ℕ → Option TileView

@@ -1,6 +1,6 @@
 //! Features, and why a text stands for none.
 
-ghost use Rattle.std.specs.Prelude.{◌≡◌, IfOk};
+ghost use Rattle.std.specs.Prelude.{◌≡◌, ◌↔◌, IsTrue, IfOk};
 ghost use Rattle.feature_reader.specs.FeatureView.{FeatureView, IsFeature};
 
 use crate::phrase::Phrases;
@@ -28,13 +28,22 @@ pub enum FeatureFault {
     Relev,
 }
 
+impl FeatureFault {
+    /// Whether the two are the same.
+    pub fn is(&self, other: &FeatureFault) -> bool
+        ensures { IsTrue result ↔ (self.now ≡ other.now) }
+    {
+        self == other
+    }
+}
+
 /// A feature of a layer: what it is found by, and where it lies.
 #[derive(Drop)]
 pub struct Feature {
-    id: u32,
-    score: u8,
     phrases: Phrases,
     tiles: Tiles,
+    id: u32,
+    score: u8,
 }
 
 impl Model for Feature {
@@ -48,8 +57,8 @@ impl Model for Feature {
 }
 
 impl Feature {
-    /// The feature of these parts.
-    pub(crate) fn from_parts(id: u32, score: u8, phrases: Phrases, tiles: Tiles) -> Feature
+    /// The feature of these parts, which keep what the type of a feature keeps.
+    pub fn from_parts(id: u32, score: u8, phrases: Phrases, tiles: Tiles) -> Feature
         requires { IsFeature (record { id = id; score = score; phrases = phrases; tiles = tiles }) }
         ensures { result ≡ record { id = id; score = score; phrases = phrases; tiles = tiles } }
     {

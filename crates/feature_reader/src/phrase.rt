@@ -12,10 +12,10 @@ use std::marker::Model;
 /// A text of a feature, the languages that it speaks for, and how relevant it is.
 #[derive(Drop)]
 pub struct Phrase {
-    /// The tokens with one space between them.
-    pub text: Text,
     /// The languages that it speaks for.
     pub set: LangSet,
+    /// The tokens with one space between them.
+    pub text: Text,
     /// The relevance: 40, 60, 80 or 100.
     pub relev: u8,
 }

@@ -1,18 +1,19 @@
 //! The feature that a JSON value or the bytes of a JSON text stand for.
 
-ghost use Rattle.std.specs.Prelude.{◌≡◌, ◌==◌, ◌<◌, ◌≤◌, true, length, map, codes, Some, Ok, Err, IfOk, IfSome, IsAscii, option_map, option_and_then};
+ghost use Rattle.std.specs.Prelude.{◌≡◌, ◌==◌, ◌<◌, ◌≤◌, true, length, map, codes, Some, Ok, Err, IfOk, IfSome, IsAscii, All, option_map, option_and_then};
 ghost use Rattle.std.specs.List.{list_all};
 ghost use Rattle.serde_json.specs.Data.{object};
 ghost use Rattle.serde_json.specs.View.{view};
 ghost use Rattle.serde_json.specs.Find.{as_str};
 ghost use Rattle.geo_base.specs.declared.refusal.Refused.TheVariants as refused;
+ghost use Rattle.geo_base.specs.TileView.{IsTile};
 ghost use Rattle.geo_text.specs.Numbers.{below};
 ghost use Rattle.geo_text.specs.Tokens.{AreWords};
 ghost use Rattle.geo_layer.specs.Json.{data_of, member, natural_of, each_of};
 ghost use Rattle.feature_reader.specs.Languages.{all_languages};
 ghost use Rattle.feature_reader.specs.Tiles.{tile_of, some_tiles, tiles_of, rising};
-ghost use Rattle.feature_reader.specs.Feature.{feature_of, feature_of_data, properties_of, phrases_of, distinct};
-ghost use Rattle.feature_reader.specs.Simple.{is_simple};
+ghost use Rattle.feature_reader.specs.Feature.{feature_of, feature_of_data, needs_no_room, properties_of, phrases_of, distinct};
+ghost use Rattle.feature_reader.specs.Simple.{is_simple_feature};
 ghost use Rattle.feature_reader.specs.declared.feature.FeatureFault.{FeatureFault};
 
 use crate::feature::{Feature, FeatureFault};
@@ -22,7 +23,7 @@ use crate::tile_text::read_tile;
 use crate::tiles::Tiles;
 use geo_base::refusal::{Memory, Refused};
 use geo_base::tile::Tile;
-use geo_layer::json::value_of;
+use geo_layer::json::read_json;
 use geo_layer::langs::Langs;
 use geo_layer::layer::Layer;
 use geo_text::token_map::TokenMap;
@@ -138,6 +139,7 @@ fn made(
     requires text { IsAscii text.now }
     requires words { AreWords replace.now }
     requires zoom { list_all (λ t. t.z == zoom) tiles.items ≡ true }
+    requires tiles { All IsTile tiles.items }
     requires some { 0 < length tiles.items }
     requires few { length tiles.items ≤ 4096 }
     ensures { IfOk result (λ f. f ≡ record { id = id; score = score; phrases = distinct (phrases_of replace.now 100 text.now all_languages); tiles = rising tiles.items }) }
@@ -160,19 +162,20 @@ fn made(
 /// the tiles each stands once, by column and then row; the limit of 4,096 counts repeats too.
 ///
 /// A simple value has no texts by language, so the listed languages play no part. Whether a value
-/// is simple tells [`is_simple`](crate::simple::is_simple).
+/// is simple tells [`is_simple_feature`](crate::simple::is_simple_feature).
 ///
-/// Memory is asked for by the tokens, the phrases and the tiles, and may be refused in place of
-/// any answer.
+/// Memory is asked for by the tiles, the tokens and the phrases, and may be refused in place of
+/// any answer but the faults `Json`, `Id` and `Text`, which are found before.
 pub fn feature_of_value(
     alloc: Global,
     layer: &Layer,
     langs: &Langs,
     value: &Value,
 ) -> Result<Feature, Refused<FeatureFault>>
-    requires { is_simple (view value.now) ≡ true }
+    requires { is_simple_feature (view value.now) ≡ true }
     ensures feature { IfOk result (λ f. feature_of_data layer.now langs.now (view value.now) ≡ Ok f) }
     ensures fault { (e : FeatureFault) → result ≡ Err (refused.Fault e) → feature_of_data layer.now langs.now (view value.now) ≡ Err e }
+    ensures outright { (e : FeatureFault) → needs_no_room e ≡ true → feature_of_data layer.now langs.now (view value.now) ≡ Err e → result ≡ Err (refused.Fault e) }
 {
     let Some(properties) = properties(value) else {
         return Err(Refused::Fault(FeatureFault::Json));
@@ -206,244 +209,12 @@ pub fn read_feature(
     langs: &Langs,
     text: &[u8],
 ) -> Result<Feature, Refused<FeatureFault>>
-    requires { IfSome (data_of text.now) (λ d. is_simple d ≡ true) }
+    requires { IfSome (data_of text.now) (λ d. is_simple_feature d ≡ true) }
     ensures feature { IfOk result (λ f. feature_of layer.now langs.now text.now ≡ Ok f) }
     ensures fault { (e : FeatureFault) → result ≡ Err (refused.Fault e) → feature_of layer.now langs.now text.now ≡ Err e }
 {
-    match value_of(alloc, text)? {
+    match read_json(alloc, text)? {
         Some(value) => feature_of_value(alloc, layer, langs, &value),
         None => Err(Refused::Fault(FeatureFault::Json)),
-    }
-}
-
-#[cfg(test)]
-mod tests {
-    use super::*;
-    use crate::simple::is_simple;
-    use geo_text::text::Text;
-    use std::test::Fail;
-
-    /// The feature that a simple text stands for in a layer of zoom 6, or the first of its faults.
-    fn read(alloc: Global, text: &str) -> Result<Result<Feature, FeatureFault>, Fail> {
-        let layer = Layer::new(alloc, Text::of(alloc, "place")?, 6);
-        let langs = Langs::new(alloc);
-        if let Some(value) = value_of(alloc, text.as_bytes())? {
-            if !is_simple(&value) {
-                return Err(Fail::from("not simple"));
-            }
-        }
-        match read_feature(alloc, &layer, &langs, text.as_bytes()) {
-            Ok(feature) => Ok(Ok(feature)),
-            Err(Refused::Fault(fault)) => Ok(Err(fault)),
-            Err(Refused::Memory) => Err(Fail::from("want of memory")),
-        }
-    }
-
-    /// The text of a feature with this text and these members behind it.
-    fn with_members(alloc: Global, text: &str, members: &str) -> Result<String, Fail> {
-        let mut out = String::from_str(alloc, "{\"id\":1,\"properties\":{\"carmen:text\":\"")?;
-        out.push_str(text)?;
-        out.push_str("\",\"carmen:zxy\":[\"6/0/0\"]")?;
-        out.push_str(members)?;
-        out.push_str("}}")?;
-        Ok(out)
-    }
-
-    /// The text of a feature that lists its one tile so often.
-    fn with_tiles(alloc: Global, count: usize) -> Result<String, Fail> {
-        let mut out = String::from_str(
-            alloc,
-            "{\"id\":1,\"properties\":{\"carmen:text\":\"a\",\"carmen:zxy\":[\"6/0/0\"",
-        )?;
-        for _ in 1..count {
-            out.push_str(",\"6/0/0\"")?;
-        }
-        out.push_str("]}}")?;
-        Ok(out)
-    }
-
-    #[test]
-    fn new_york_has_a_phrase_and_two_tiles(rt: HostRuntime) -> Result<(), Fail> {
-        let text =
-            "{\"id\":7,\"properties\":{\"carmen:score\":9,\"carmen:text\":\"New York\",\"carmen:zxy\":[\"6/33/32\",\"6/32/32\",\"6/33/32\"]}}";
-        let Ok(feature) = read(rt.alloc(), text)? else {
-            return Err(Fail::from("New York is no feature"));
-        };
-        let feature = feature.copy()?;
-        assert_eq!(rt; feature.id(), 7);
-        assert_eq!(rt; feature.score(), 9);
-        assert_eq!(rt; feature.phrases().len(), 1);
-        assert_eq!(rt; feature.phrases().at(0).text.as_str(), "new york");
-        assert_eq!(rt; feature.tiles().len(), 2);
-        let first = feature.tiles().at(0);
-        let second = feature.tiles().at(1);
-        assert_eq!(rt; (first.z, first.x, first.y), (6, 32, 32));
-        assert_eq!(rt; (second.z, second.x, second.y), (6, 33, 32));
-        Ok(())
-    }
-
-    #[test]
-    fn the_first_fault_is_told(rt: HostRuntime) -> Result<(), Fail> {
-        let cases = [
-            ("{\"id\":1", FeatureFault::Json),
-            ("[]", FeatureFault::Json),
-            ("{\"id\":1}", FeatureFault::Json),
-            ("{\"id\":1,\"properties\":null}", FeatureFault::Json),
-            ("{\"properties\":{}}", FeatureFault::Id),
-            (
-                "{\"id\":-1,\"properties\":{\"carmen:zxy\":[\"6/0/0\"]}}",
-                FeatureFault::Id,
-            ),
-            ("{\"id\":67108864,\"properties\":{}}", FeatureFault::Id),
-            ("{\"id\":67108863,\"properties\":{}}", FeatureFault::Text),
-            (
-                "{\"id\":1,\"properties\":{\"carmen:text\":1,\"carmen:zxy\":[\"x\"]}}",
-                FeatureFault::Text,
-            ),
-            (
-                "{\"id\":1,\"properties\":{\"carmen:text\":\"a\"}}",
-                FeatureFault::Zxy,
-            ),
-            (
-                "{\"id\":1,\"properties\":{\"carmen:text\":\"a\",\"carmen:zxy\":[]}}",
-                FeatureFault::Zxy,
-            ),
-            (
-                "{\"id\":1,\"properties\":{\"carmen:text\":\"a\",\"carmen:zxy\":[\"7/0/0\",\"6/64/0\"]}}",
-                FeatureFault::Zxy,
-            ),
-            (
-                "{\"id\":1,\"properties\":{\"carmen:text\":\"a\",\"carmen:zxy\":[\"7/0/0\"],\"carmen:score\":\"x\"}}",
-                FeatureFault::Zoom,
-            ),
-            (
-                "{\"id\":1,\"properties\":{\"carmen:text\":\"a\",\"carmen:zxy\":[\"6/0/0\"],\"carmen:score\":1.5}}",
-                FeatureFault::Score,
-            ),
-        ];
-        for (text, want) in cases {
-            match read(rt.alloc(), text)? {
-                Ok(_) => return Err(Fail::from("a feature in place of a fault")),
-                Err(fault) => assert_eq!(rt; fault, want, "at {text}"),
-            }
-        }
-        Ok(())
-    }
-
-    #[test]
-    fn limits_are_kept(rt: HostRuntime) -> Result<(), Fail> {
-        let alloc = rt.alloc();
-        match read(alloc, with_tiles(alloc, 4096)?.as_str())? {
-            Ok(feature) => assert_eq!(rt; feature.tiles().len(), 1),
-            Err(_) => return Err(Fail::from("4,096 tiles are no feature")),
-        }
-        match read(alloc, with_tiles(alloc, 4097)?.as_str())? {
-            Ok(_) => return Err(Fail::from("4,097 tiles are a feature")),
-            Err(fault) => assert_eq!(rt; fault, FeatureFault::Zxy),
-        }
-        let largest =
-            "{\"id\":67108863,\"properties\":{\"carmen:text\":\"\",\"carmen:zxy\":[\"6/63/63\"]}}";
-        match read(alloc, largest)? {
-            Ok(feature) => {
-                assert_eq!(rt; feature.id(), 67_108_863);
-                assert_eq!(rt; feature.phrases().len(), 0);
-            }
-            Err(_) => return Err(Fail::from("the largest id is no feature")),
-        }
-        Ok(())
-    }
-
-    #[test]
-    fn scores_have_levels(rt: HostRuntime) -> Result<(), Fail> {
-        let cases = [
-            ("", 0),
-            (",\"carmen:score\":null", 0),
-            (",\"carmen:score\":0", 0),
-            (",\"carmen:score\":-3", 0),
-            (",\"carmen:score\":-9223372036854775808", 0),
-            (",\"carmen:score\":1", 1),
-            (",\"carmen:score\":15", 15),
-            (",\"carmen:score\":16", 15),
-            (",\"carmen:score\":18446744073709551615", 15),
-        ];
-        for (members, want) in cases {
-            let text = with_members(rt.alloc(), "a", members)?;
-            match read(rt.alloc(), text.as_str())? {
-                Ok(feature) => assert_eq!(rt; feature.score(), want, "at {members}"),
-                Err(_) => return Err(Fail::from("no feature")),
-            }
-        }
-        Ok(())
-    }
-
-    #[test]
-    fn parts_are_phrases(rt: HostRuntime) -> Result<(), Fail> {
-        let cases = [
-            ("New York,NYC", "new york 100;nyc 80;"),
-            ("a,,b", "a 100;b 80;"),
-            ("a,a,a", "a 100;a 80;"),
-            ("a,b,A,c", "a 100;b 80;a 80;c 80;"),
-            (",-,", ""),
-            (
-                "1 2 3 4 5 6 7 8 9 10 11 12 13 14 15 16 17 18 19 20 21,b",
-                "b 100;",
-            ),
-            (
-                "1 2 3 4 5 6 7 8 9 10 11 12 13 14 15 16 17 18 19 20",
-                "1 2 3 4 5 6 7 8 9 10 11 12 13 14 15 16 17 18 19 20 100;",
-            ),
-        ];
-        for (text, want) in cases {
-            let whole = with_members(rt.alloc(), text, "")?;
-            let Ok(feature) = read(rt.alloc(), whole.as_str())? else {
-                return Err(Fail::from("no feature"));
-            };
-            let mut told = String::new(rt.alloc());
-            for phrase in feature.phrases().as_slice() {
-                told.push_str(phrase.text.as_str())?;
-                told.push_str(if phrase.relev == 100 { " 100;" } else { " 80;" })?;
-            }
-            assert_eq!(rt; told.as_str(), want, "at {text}");
-        }
-        Ok(())
-    }
-
-    #[test]
-    fn thousands_of_parts_stand_once_each(rt: HostRuntime) -> Result<(), Fail> {
-        let alloc = rt.alloc();
-        let mut text = String::new(alloc);
-        for n in 0..12000 {
-            let part = format!(in alloc; "part {},", n % 4000)?;
-            text.push_str(part.as_str())?;
-        }
-        let whole = with_members(alloc, text.as_str(), "")?;
-        let Ok(feature) = read(alloc, whole.as_str())? else {
-            return Err(Fail::from("no feature"));
-        };
-        // the first part stands once with relevance 100, and once with 80
-        assert_eq!(rt; feature.phrases().len(), 4001);
-        Ok(())
-    }
-
-    #[test]
-    fn values_are_simple_or_not(rt: HostRuntime) -> Result<(), Fail> {
-        let cases = [
-            ("{\"id\":1}", true),
-            ("{\"properties\":{\"carmen:text\":\"a b\"}}", true),
-            ("{\"properties\":{\"carmen:text\":\"a,b\"}}", true),
-            ("{\"properties\":{\"carmen:text\":\"-\"}}", true),
-            ("{\"properties\":{\"carmen:text\":\"\u{e9}\"}}", false),
-            ("{\"properties\":{\"carmen:score\":1}}", true),
-            ("{\"properties\":{\"carmen:relev\":null}}", true),
-            ("{\"properties\":{\"carmen:relev\":80}}", false),
-            ("{\"properties\":{\"carmen:text_d\":\"a\"}}", true),
-            ("{\"properties\":{\"carmen:text_de\":null}}", true),
-            ("{\"properties\":{\"carmen:text_de\":\"a\"}}", false),
-        ];
-        for (text, simple) in cases {
-            let value = value_of(rt.alloc(), text.as_bytes())?.ok_or("no JSON")?;
-            assert_eq!(rt; is_simple(&value), simple, "at {text}");
-        }
-        Ok(())
     }
 }

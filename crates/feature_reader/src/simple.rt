@@ -5,7 +5,7 @@ ghost use Rattle.serde_json.specs.Find.{as_str, as_object};
 ghost use Rattle.serde_json.specs.View.{view, members_view};
 ghost use Rattle.geo_layer.specs.Json.{member, present};
 ghost use Rattle.feature_reader.specs.Feature.{text_code};
-ghost use Rattle.feature_reader.specs.Simple.{is_simple, are_simple, is_simple_member, is_simple_text, has_simple_members};
+ghost use Rattle.feature_reader.specs.Simple.{is_simple_feature, are_simple, is_simple_member, is_simple_text, has_simple_members};
 
 use geo_base::lang_code::LangCode;
 use serde_json::Value;
@@ -16,8 +16,8 @@ use serde_json::value::Map;
 /// `carmen:text_CODE`, where CODE is 2 to 16 ASCII letters, digits, `_` or `-`, the first a
 /// letter; and `carmen:text`, where it is a string, is ASCII. A value without properties asks for
 /// nothing, so it is simple. Takes no memory.
-pub fn is_simple(value: &Value) -> bool
-    ensures { result ≡ is_simple (view value.now) }
+pub fn is_simple_feature(value: &Value) -> bool
+    ensures { result ≡ is_simple_feature (view value.now) }
 {
     match value.get("properties") {
         Some(properties) => are_simple(properties),

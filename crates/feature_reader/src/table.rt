@@ -1,8 +1,10 @@
 //! The table of features.
 
 ghost use Rattle.std.specs.Prelude.{◌≡◌, ◌+◌, ◌<◌, ◌≤◌, ◌^◌, List, [], length, map, slice_get, Some, Ok, Err, IfOk, IfErr, IfSome, OnOk, All, is_some, true, not, if◌then◌else◌};
+ghost use Rattle.geo_base.specs.declared.refusal.Refused.TheVariants as refused;
+ghost use Rattle.feature_reader.specs.declared.taker.PutFault.{PutFault};
 ghost use Rattle.feature_reader.specs.declared.taker.Taken.TheVariants as taken;
-ghost use Rattle.feature_reader.specs.Table.{IsTable, IsWithinLimits, entry_of, stands, without, with_feature, is_one_too_many, put_answer, rows_of, rows, most_features};
+ghost use Rattle.feature_reader.specs.Table.{IsTable, IsWithinLimits, entry_of, stands, without, with_feature, is_one_too_many, put, put_answer, rows_of, rows, most_features};
 
 use crate::feature::Feature;
 use crate::taker::{PutFault, Taken, Taker};
@@ -73,7 +75,14 @@ impl Taker for FeatureTable {
 
     ghost takes = { λ t layer zoom. nat_lt layer 16 };
 
-    fn take(&mut self, layer: u8, f: Feature) -> Result<Taken, Refused<PutFault>> {
+    /// Takes a feature into a layer. A limit is found before any room is asked for, so memory is
+    /// never refused in its place.
+    fn take(&mut self, layer: u8, f: Feature) -> Result<Taken, Refused<PutFault>>
+        ensures ok { IfOk result (λ taken. (put_answer self.old layer f ≡ Ok taken) × (self.new ≡ put self.old layer f)) }
+        ensures fault { (fault : PutFault) → result ≡ Err (refused.Fault fault) → (put_answer self.old layer f ≡ Err fault) × (self.new ≡ self.old) }
+        ensures memory { result ≡ Err refused.Memory → self.new ≡ self.old }
+        ensures outright { (fault : PutFault) → put_answer self.old layer f ≡ Err fault → result ≡ Err (refused.Fault fault) }
+    {
         let rows = match self.rows_with(layer, &f) {
             Ok(rows) => rows,
             Err(fault) => return Err(Refused::Fault(fault)),
@@ -189,167 +198,5 @@ impl FeatureTable {
             features: self.features.clone()?,
             row_count: self.row_count,
         })
-    }
-}
-
-#[cfg(test)]
-mod tests {
-    use super::*;
-    use crate::read_feature::feature_of_value;
-    use crate::simple::is_simple;
-    use geo_layer::json::value_of;
-    use geo_layer::langs::Langs;
-    use geo_layer::layer::Layer;
-    use geo_text::text::Text;
-    use std::test::Fail;
-
-    /// The feature that a simple text stands for in a layer of zoom 6.
-    fn feature_of(alloc: Global, text: &str) -> Result<Feature, Fail> {
-        let layer = Layer::new(alloc, Text::of(alloc, "place")?, 6);
-        let langs = Langs::new(alloc);
-        let value = value_of(alloc, text.as_bytes())?.ok_or("no JSON")?;
-        if !is_simple(&value) {
-            return Err(Fail::from("not simple"));
-        }
-        match feature_of_value(alloc, &layer, &langs, &value) {
-            Ok(feature) => Ok(feature),
-            Err(_) => Err(Fail::from("no feature")),
-        }
-    }
-
-    /// A feature of so many phrases and tiles.
-    fn large(alloc: Global, id: u32, phrases: u32, tiles: u32) -> Result<Feature, Fail> {
-        let mut text = String::new(alloc);
-        for n in 0..phrases {
-            text.push_str(format!(in alloc; "a{n},")?.as_str())?;
-        }
-        let mut list = String::new(alloc);
-        for n in 0..tiles {
-            let mark = if n == 0 { "" } else { "," };
-            let (x, y) = (n % 64, n / 64);
-            list.push_str(format!(in alloc; "{mark}\"6/{x}/{y}\"")?.as_str())?;
-        }
-        let json = format!(in alloc;
-            "{{\"id\":{id},\"properties\":{{\"carmen:text\":\"{text}\",\"carmen:zxy\":[{list}]}}}}"
-        )?;
-        feature_of(alloc, json.as_str())
-    }
-
-    /// The same feature with another id.
-    fn with_id(f: &Feature, id: u32) -> Result<Feature, Memory>
-        requires { id < 2 ^ 26 }
-        ensures { IfOk result (λ g. g ≡ record { id = id; score = f.now.score; phrases = f.now.phrases; tiles = f.now.tiles }) }
-    {
-        let phrases = f.phrases().copy()?;
-        let tiles = f.tiles().copy()?;
-        Ok(Feature::from_parts(id, f.score(), phrases, tiles))
-    }
-
-    /// What a put answers; want of memory fails.
-    fn put(table: &mut FeatureTable, layer: u8, f: Feature) -> Result<Result<Taken, PutFault>, Fail>
-        requires { layer < 16 }
-    {
-        match table.take(layer, f) {
-            Ok(taken) => Ok(Ok(taken)),
-            Err(Refused::Fault(fault)) => Ok(Err(fault)),
-            Err(Refused::Memory) => Err(Fail::from("want of memory")),
-        }
-    }
-
-    #[test]
-    fn takes_and_drops_features_in_order(rt: HostRuntime) -> Result<(), Fail> {
-        let alloc = rt.alloc();
-        let mut table = FeatureTable::new(alloc);
-        assert_eq!(rt; put(&mut table, 1, large(alloc, 7, 2, 3)?)?, Ok(Taken::New));
-        assert_eq!(rt; put(&mut table, 0, large(alloc, 9, 1, 5)?)?, Ok(Taken::New));
-        assert_eq!(rt; (table.len(), table.rows()), (2, 11));
-        assert_eq!(rt;
-            put(&mut table, 1, large(alloc, 7, 4, 2)?)?,
-            Ok(Taken::Changed)
-        );
-        assert_eq!(rt; (table.len(), table.rows()), (2, 13));
-        let copy = table.copy()?;
-        assert_eq!(rt; (copy.len(), copy.rows()), (2, 13));
-        assert_eq!(rt; (copy.at(0).0, copy.at(0).1.id()), (0, 9));
-        assert_eq!(rt; (copy.at(1).0, copy.at(1).1.id()), (1, 7));
-        let mut ids: u64 = 0;
-        for (_, feature) in copy.entries() {
-            ids = 100 * (ids % 100) + u64::from(feature.id() % 100);
-        }
-        assert_eq!(rt; ids, 907);
-        assert!(rt; !table.drop_feature(0, 7));
-        assert!(rt; table.drop_feature(1, 7));
-        assert!(rt; !table.drop_feature(1, 7));
-        assert_eq!(rt; (table.len(), table.rows()), (1, 5));
-        assert_eq!(rt; (copy.len(), copy.rows()), (2, 13));
-        Ok(())
-    }
-
-    #[test]
-    fn rows_have_a_limit(rt: HostRuntime) -> Result<(), Fail> {
-        let alloc = rt.alloc();
-        let mut table = FeatureTable::new(alloc);
-        let small = large(alloc, 2, 1, 1)?;
-        assert_eq!(rt;
-            put(&mut table, 0, large(alloc, 1, 2049, 4096)?)?,
-            Err(PutFault::TooManyRows)
-        );
-        assert_eq!(rt; (table.len(), table.rows()), (0, 0));
-        assert_eq!(rt;
-            put(&mut table, 0, large(alloc, 1, 2048, 4096)?)?,
-            Ok(Taken::New)
-        );
-        assert_eq!(rt;
-            put(&mut table, 0, small.copy()?)?,
-            Err(PutFault::TooManyRows)
-        );
-        assert_eq!(rt;
-            put(&mut table, 0, large(alloc, 1, 2049, 4096)?)?,
-            Err(PutFault::TooManyRows)
-        );
-        assert_eq!(rt; (table.len(), table.rows()), (1, 8_388_608));
-        assert_eq!(rt;
-            put(&mut table, 0, large(alloc, 1, 2048, 4095)?)?,
-            Ok(Taken::Changed)
-        );
-        assert_eq!(rt;
-            put(&mut table, 0, large(alloc, 2, 1, 2048)?)?,
-            Ok(Taken::New)
-        );
-        assert_eq!(rt; (table.len(), table.rows()), (2, 8_388_608));
-        assert_eq!(rt;
-            put(&mut table, 0, large(alloc, 2, 1, 2049)?)?,
-            Err(PutFault::TooManyRows)
-        );
-        assert!(rt; table.drop_feature(0, 1));
-        assert_eq!(rt; (table.len(), table.rows()), (1, 2048));
-        Ok(())
-    }
-
-    #[test]
-    fn features_have_a_limit(rt: HostRuntime) -> Result<(), Fail> {
-        let alloc = rt.alloc();
-        let mut table = FeatureTable::new(alloc);
-        let small = large(alloc, 0, 1, 1)?;
-        for id in 0..262_144 {
-            assert_eq!(rt; put(&mut table, 3, with_id(&small, id)?)?, Ok(Taken::New));
-        }
-        assert_eq!(rt; (table.len(), table.rows()), (262_144, 262_144));
-        assert_eq!(rt;
-            put(&mut table, 3, with_id(&small, 262_144)?)?,
-            Err(PutFault::TooManyFeatures)
-        );
-        assert_eq!(rt;
-            put(&mut table, 4, small.copy()?)?,
-            Err(PutFault::TooManyFeatures)
-        );
-        assert_eq!(rt;
-            put(&mut table, 3, large(alloc, 262_143, 2, 1)?)?,
-            Ok(Taken::Changed)
-        );
-        assert_eq!(rt; (table.len(), table.rows()), (262_144, 262_145));
-        assert!(rt; table.drop_feature(3, 5));
-        assert_eq!(rt; put(&mut table, 4, small)?, Ok(Taken::New));
-        Ok(())
     }
 }

@@ -1,6 +1,6 @@
 //! What takes features: a table, or whoever builds from one.
 
-ghost use Rattle.std.specs.Prelude.{◌≡◌, ℕ, Bool, true, Ok, Err, IfOk};
+ghost use Rattle.std.specs.Prelude.{◌≡◌, ◌↔◌, IsTrue, ℕ, Bool, true, Ok, Err, IfOk};
 ghost use Rattle.geo_base.specs.declared.refusal.Refused.TheVariants as refused;
 ghost use Rattle.feature_reader.specs.FeatureView.{zoom_of};
 ghost use Rattle.feature_reader.specs.Table.{Table, put, put_answer};
@@ -18,6 +18,15 @@ pub enum Taken {
     Changed,
 }
 
+impl Taken {
+    /// Whether the two are the same.
+    pub fn is(&self, other: &Taken) -> bool
+        ensures { IsTrue result ↔ (self.now ≡ other.now) }
+    {
+        self == other
+    }
+}
+
 /// Why a feature isn't taken, in the order in which the faults are tried.
 #[derive(Clone, Copy, Debug, PartialEq, Eq)]
 pub enum PutFault {
@@ -25,6 +34,15 @@ pub enum PutFault {
     TooManyFeatures,
     /// The rows, which are a feature's phrases times its tiles, would be more than 8,388,608 in all.
     TooManyRows,
+}
+
+impl PutFault {
+    /// Whether the two are the same.
+    pub fn is(&self, other: &PutFault) -> bool
+        ensures { IsTrue result ↔ (self.now ≡ other.now) }
+    {
+        self == other
+    }
 }
 
 /// What takes features into layers.

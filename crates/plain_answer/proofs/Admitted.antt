@@ -1,9 +1,9 @@
 -- The links that may follow one more link.
 use Rattle.std.proofs.Common.{◌≡◌, ◌<◌, ◌≤◌, ◌∙◌, ◌+◌, ℕ, zero, suc, Bool, true, false, List, [], ◌∷◌, ◌++◌, length, get_or, filter, take, drop, All, refl, sym, ap, subst, arith}
-use Rattle.std.specs.Prelude.{AllPairs, Contains}
+use Rattle.std.specs.Prelude.{AllPairs}
 use Rattle.std.proofs.lemmas.Bool.{and_parts, le-ltb}
 use Rattle.std.proofs.lemmas.List.{append-nil, take-append-drop, get_or-drop, length-drop}
-use Rattle.std.proofs.lemmas.List.Elements.{filter-append, Contains-get_or, All-filter, All-cons, All-head, All-tail, All-push}
+use Rattle.std.proofs.lemmas.List.Elements.{filter-append, All-filter, All-cons, All-head, All-tail, All-push}
 use Rattle.geo_base.specs.declared.link.Link.{Link}
 use Rattle.geo_base.specs.Link.{Compat, admits_below, stacks}
 
@@ -55,11 +55,3 @@ none_smaller links n layer rising least = by
         let more : (get_or links n d).layer ≤ (get_or links (n + suc k) d).layer = rising n (n + suc k) d (omega arith) (omega (arith, within, length-drop n links)) in
         let here = least d in
         subst (λ (l : Link). layer ≤ l.layer) (sym (get_or-drop n links (suc k) d)) (omega (arith, more, here))
-
--- what holds of each member holds of the one at a place
-pub All-member : (all links : List Link) (i : ℕ) (l : Link) → i < length links → l ≡ get_or links i l → All (Contains all) links → Contains all l
-All-member all links i l within here chosen = subst (Contains all) (sym here) (chosen i l within)
-
--- each member of a list is one
-pub each_itself : (links : List Link) → All (Contains links) links
-each_itself links = λ k d within. Contains-get_or links k d within

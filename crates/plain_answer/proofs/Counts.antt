@@ -3,7 +3,7 @@ use Rattle.std.proofs.Common.{◌≡◌, ◌∙◌, ◌+◌, ◌-◌, ◌≤◌,
 use Rattle.std.specs.Prelude.{flat_map}
 use Rattle.std.proofs.lemmas.List.{map-append}
 use Rattle.std.proofs.lemmas.List.Elements.{filter-append}
-use Rattle.plain_answer.specs.Match.{numbers_from}
+use Rattle.geo_base.specs.Lists.{numbers_from}
 use Rattle.plain_answer.proofs.RunLists.{numbers_from-suc, one_more}
 
 -- 1 for true

@@ -7,7 +7,7 @@ use Rattle.std.proofs.lemmas.List.Elements.{All-cons, All-head, All-tail, All-ap
 use Rattle.std.proofs.lemmas.List.Kept.{AllPairs-cons}
 use Rattle.std.proofs.lemmas.List.Sums.{sum_by-cons}
 use Rattle.geo_base.proofs.Members.{pairs_head, pairs_tail}
-use Rattle.plain_answer.specs.Match.{numbers_from}
+use Rattle.geo_base.specs.Lists.{numbers_from}
 
 -- no two members are the same
 abbrev pub Differ : {X : Type 0} → List X → Type 0

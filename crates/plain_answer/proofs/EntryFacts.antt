@@ -15,7 +15,8 @@ use Rattle.geo_query.specs.QueryView.{QueryView}
 use Rattle.feature_reader.specs.declared.phrase.Phrase.{Phrase}
 use Rattle.feature_reader.specs.FeatureView.{FeatureView, IsFeature, tile_cmp}
 use Rattle.feature_reader.specs.Table.{Table, IsTable}
-use Rattle.plain_answer.specs.Match.{matches_in, numbers_from, runs_from, runs}
+use Rattle.geo_base.specs.Lists.{numbers_from}
+use Rattle.plain_answer.specs.Match.{matches_in, runs_from, runs}
 use Rattle.plain_answer.specs.Count.{Entry, run_count, feature_count, count, entry_at, phrase_entries, feature_entries, entries}
 use Rattle.plain_answer.proofs.Agreeing.{not_before_its_like}
 use Rattle.plain_answer.proofs.Differing.{Differ, all, all_flat_map, differ_map, differ_flat_map, numbers_differ, sums_same, length_times}

@@ -5,7 +5,6 @@ mod Begins
 mod Counts
 mod Differing
 mod EntryFacts
-mod Factors
 mod LayerTokens
 mod Offers
 pub mod OfHead

@@ -1,5 +1,5 @@
 -- What keeps the features of a table in the layers of a head, at their zooms.
-use Rattle.std.proofs.Common.{◌≡◌, ℕ, Bool, true, false, not, [], ◌∷◌, All, Some, Result, Ok, Err, refl, sym, subst, arith}
+use Rattle.std.proofs.Common.{◌≡◌, ℕ, Bool, true, false, not, [], ◌∷◌, All, Some, Result, Ok, Err, refl, sym, subst}
 use Rattle.std.specs.Prelude.{slice_get, IfSome, IsSome}
 use Rattle.std.proofs.lemmas.List.Elements.{All-cons, All-head, All-tail, All-filter}
 use Rattle.geo_layer.specs.Layer.{LayerView}
@@ -25,10 +25,6 @@ inserted_all P layer f (e ∷ es) one all = by (inserted_all P layer f es one (A
     by : All P (inserted layer f es) → (b : Bool) → comes_before layer f.id e ≡ b → All P (inserted layer f (e ∷ es))
     by later true is = rw is (All-cons P (layer, f) (e ∷ es) one all)
     by later false is = rw is (All-cons P e (inserted layer f es) (All-head P e es all) later)
-
--- an empty table is of each head
-pub none_of_head : (head : Head) → IsOfHead head []
-none_of_head head = λ k d less. absurd (omega (arith, less))
 
 -- what is left after a feature is removed is of the head
 pub without_of_head : (head : Head) (table : Table) (layer id : ℕ) → IsOfHead head table → IsOfHead head (without table layer id)

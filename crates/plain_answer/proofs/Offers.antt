@@ -1,32 +1,20 @@
 -- Contexts that are offered one after another.
-use Rattle.std.proofs.Common.{◌≡◌, ◌∙◌, ◌+◌, ◌-◌, ◌<◌, ℕ, suc, List, [], ◌∷◌, ◌++◌, length, take, get_or, map, filter, All, refl, sym, ap, append_assoc}
-use Rattle.std.specs.Prelude.{flat_map, Contains}
+use Rattle.std.proofs.Common.{◌≡◌, ◌∙◌, ◌+◌, ◌-◌, ◌<◌, ℕ, suc, List, [], ◌∷◌, ◌++◌, length, take, get_or, map, filter, refl, sym, ap, append_assoc}
+use Rattle.std.specs.Prelude.{flat_map}
 use Rattle.std.proofs.lemmas.List.{map-append, take_more, flat_map_more}
-use Rattle.std.proofs.lemmas.List.Elements.{All-contains, All-push}
 use Rattle.geo_base.specs.declared.link.Link.{Link}
 use Rattle.geo_base.specs.Link.{Compat, stacks}
 use Rattle.geo_base.specs.Chain.{chains}
-use Rattle.geo_base.specs.Context.{Agree}
 use Rattle.geo_base.specs.Order.{context_cmp, same_target}
 use Rattle.geo_base.specs.Best.{best_of}
 use Rattle.geo_base.proofs.OrderLaws.{context_cmp_total}
-use Rattle.geo_base.proofs.MergeFacts.{best_of_best}
+use Rattle.geo_base.proofs.MergeFacts.{best_of_best_and}
 use Rattle.geo_base.proofs.AnswerFacts.{same_target_equiv}
-use Rattle.geo_base.proofs.ContextFacts.{context_tie}
-use Rattle.plain_answer.specs.Offered.{IsBestOf, with_more}
+use Rattle.plain_answer.specs.Offered.{with_more}
 
--- one more context is offered
-pub offered_one : (all : List Link) (seen : List (List Link)) (c : List Link) (top new : List (List Link)) → Agree all → All (Contains all) c → IsBestOf all seen top
-    → new ≡ best_of context_cmp same_target 40 (top ++ c ∷ []) → IsBestOf all (seen ++ c ∷ []) new
-offered_one all seen c top new alike from best is =
-    let chosen : All (λ d. All (Contains all) d) (seen ++ c ∷ []) = All-push (λ d. All (Contains all) d) seen c best.chosen from in
-    record {
-      chosen = chosen;
-      is =
-          is
-          ∙ (ap (λ (t : List (List Link)). best_of context_cmp same_target 40 (t ++ c ∷ [])) best.is
-          ∙ best_of_best context_cmp_total same_target_equiv 40 seen (c ∷ []) (λ a b p q e. context_tie all alike a b (All-contains (λ d. All (Contains all) d) (seen ++ c ∷ []) a chosen p) (All-contains (λ d. All (Contains all) d) (seen ++ c ∷ []) b chosen q) e));
-    }
+-- what is offered to the best of some contexts is offered to them all
+pub offered_more : (top seen more : List (List Link)) → top ≡ best_of context_cmp same_target 40 seen → best_of context_cmp same_target 40 (top ++ more) ≡ best_of context_cmp same_target 40 (seen ++ more)
+offered_more top seen more is = ap (λ (t : List (List Link)). best_of context_cmp same_target 40 (t ++ more)) is ∙ best_of_best_and context_cmp_total same_target_equiv 40 seen more
 
 -- a context before each of some chains, and the chains behind one more link
 behind_one : (context : List Link) (a : Link) (cs : List (List Link)) → map (λ c. context ++ c) (map (λ c. a ∷ c) cs) ≡ map (λ c. (context ++ a ∷ []) ++ c) cs

@@ -2,4 +2,5 @@ pub mod Match
 pub mod Links
 pub mod Count
 pub mod Answering
+-- for private contracts alone
 pub mod Offered

@@ -1,7 +1,8 @@
 -- The links of a query over a head and a table of features.
-use Rattle.std.specs.Prelude.{ℕ, ◌-◌, ◌*◌, ◌^◌, Bool, true, not, bit_and, List, [], ◌==◌, length, map, filter, flat_map, slice_get, if◌then◌else◌, Option, Some, None}
+use Rattle.std.specs.Prelude.{ℕ, ◌-◌, ◌*◌, Bool, true, List, [], length, map, filter, flat_map, slice_get, if◌then◌else◌, Option, Some, None}
 use Rattle.geo_base.specs.TileView.{TileView}
 use Rattle.geo_base.specs.TileBox.{BoxView, meets}
+use Rattle.geo_base.specs.LangSet.{has_bit}
 use Rattle.geo_base.specs.declared.link.Link.{Link}
 use Rattle.geo_layer.specs.Langs.{bit_of}
 use Rattle.geo_layer.specs.Layer.{LayerView}
@@ -11,10 +12,6 @@ use Rattle.feature_reader.specs.declared.phrase.Phrase.{Phrase}
 use Rattle.feature_reader.specs.FeatureView.{FeatureView}
 use Rattle.feature_reader.specs.Table.{Table}
 use Rattle.plain_answer.specs.Match.{matches_in, runs}
-
--- the set of a phrase has this bit
-abbrev pub has_bit : ℕ → ℕ → Bool
-has_bit bits k = not (bit_and bits (2 ^ k) == 0)
 
 -- 100 where no language is asked for, or the phrase speaks for the one that is; else 96
 abbrev pub factor : List (List ℕ) → Option (List ℕ) → Phrase → ℕ

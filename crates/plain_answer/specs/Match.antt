@@ -1,5 +1,6 @@
 -- Which runs of a query match a phrase.
-use Rattle.std.specs.Prelude.{ℕ, ◌+◌, ◌-◌, Bool, zero, suc, List, [], ◌∷◌, ◌&&◌, ◌||◌, ◌==◌, length, map, flat_map, take, bytes_eq, slice_range}
+use Rattle.std.specs.Prelude.{ℕ, ◌+◌, ◌-◌, Bool, List, ◌&&◌, ◌||◌, ◌==◌, length, map, flat_map, take, bytes_eq, slice_range}
+use Rattle.geo_base.specs.Lists.{numbers_from}
 use Rattle.geo_text.specs.Tokens.{joined, replaced}
 use Rattle.geo_layer.specs.Layer.{LayerView}
 use Rattle.geo_query.specs.QueryView.{QueryView}
@@ -20,11 +21,6 @@ matches tokens auto from to phrase =
 -- a run of a query matches the phrase of a layer: it does with that layer's replacements
 abbrev pub matches_in : LayerView → QueryView → List ℕ → ℕ × ℕ → Bool
 matches_in layer q phrase run = matches (replaced layer.tokens q.tokens) q.auto run.0 run.1 phrase
-
--- n numbers, from k on
-abbrev pub numbers_from : ℕ → ℕ → List ℕ
-numbers_from k zero = []
-numbers_from k (suc n) = k ∷ numbers_from (k + 1) n
 
 -- the runs of n tokens from one token on: up to each later place
 abbrev pub runs_from : ℕ → ℕ → List (ℕ × ℕ)

@@ -1,12 +1,13 @@
 //! All contexts of some links, each offered to a list of the best.
 
-ghost use Rattle.std.specs.Prelude.{◌≡◌, ◌+◌, ◌-◌, ◌<◌, ◌≤◌, ◌++◌, ℕ, true, List, Contains, length, filter, All, AllPairs, OnOk, IfOk, drop, slice_index_or};
+ghost use Rattle.std.specs.Prelude.{◌≡◌, ◌+◌, ◌-◌, ◌<◌, ◌≤◌, ◌++◌, true, length, filter, All, AllPairs, OnOk, IfOk, drop, slice_index_or};
 ghost use Rattle.geo_base.specs.declared.link.Link.{Link};
 ghost use Rattle.geo_base.specs.Link.{admits_below, stacks};
 ghost use Rattle.geo_base.specs.Answer.{best};
-ghost use Rattle.geo_base.specs.Context.{Agree};
+ghost use Rattle.geo_base.specs.Best.{best_of};
+ghost use Rattle.geo_base.specs.Order.{context_cmp, same_target};
 ghost use Rattle.geo_layer.specs.Layer.{compat};
-ghost use Rattle.plain_answer.specs.Offered.{IsBestOf, with_more};
+ghost use Rattle.plain_answer.specs.Offered.{with_more};
 
 use geo_base::context::Context;
 use geo_base::link::Link;
@@ -57,8 +58,7 @@ fn offer_with(
 ) -> Result<(), Memory>
     requires layers { All (λ l. l.layer < length layers.now) below.now }
     requires admitted { All (λ l. All (λ a. admits_below a l ≡ true) context.now) below.now }
-    ensures { (all : List Link) → (seen : List (List Link)) → Agree all → All (Contains all) context.now → All (Contains all) below.now → IsBestOf all seen top.old
-        → OnOk result (IsBestOf all (seen ++ with_more (compat layers.now) (16 - length context.now) context.now below.now) top.new) }
+    ensures { OnOk result (top.new ≡ best_of context_cmp same_target 40 (top.old ++ with_more (compat layers.now) (16 - length context.now) context.now below.now)) }
 {
     top.offer(context);
     if context.len() < 16 {
@@ -87,10 +87,9 @@ fn smaller_end(links: &[Link], end: usize, i: usize) -> usize
     }
 }
 
-/// The best contexts of some links of these layers, which agree on the zoom of each layer and the score of each feature and rise by layer.
+/// The best contexts of some links of these layers, which rise by layer.
 pub fn best_contexts(alloc: Global, layers: &Layers, links: &[Link]) -> Result<TopList, Memory>
     requires layers { All (λ l. l.layer < length layers.now) links.now }
-    requires agree { Agree links.now }
     requires rising { AllPairs (λ a b. a.layer ≤ b.layer) links.now }
     ensures { IfOk result (λ top. top ≡ best (compat layers.now) links.now) }
 {

@@ -2,11 +2,9 @@
 #![tactic(auto)]
 
 pub mod answer;
-pub mod chains;
-pub mod count;
+mod chains;
+mod count;
 pub mod laws;
-pub mod layer_tokens;
-pub mod links;
-pub mod matching;
-#[cfg(test)]
-mod tests;
+mod layer_tokens;
+mod links;
+mod matching;

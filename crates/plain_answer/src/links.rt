@@ -49,138 +49,123 @@ fn factor(langs: &Langs, query: &Query, phrase: &Phrase) -> u32
     }
 }
 
-/// Adds the links of a run that matches a phrase, one for each tile in the box.
-fn add_run(
-    links: &mut Vec<Link>,
-    head: &Head,
-    query: &Query,
-    layer: u8,
-    feature: &Feature,
-    phrase: &Phrase,
-    from: usize,
-    to: usize,
-) -> Result<(), Memory>
-    requires some { from < to }
-    requires few { to ≤ 20 }
-    ensures { OnOk result (links.new.items ≡ links.old.items ++ map (link_of head.now query.now layer feature.now phrase.now (from, to)) (filter (lies_in query.now.bounds) feature.now.tiles)) }
-{
-    let relevance = phrase.relev;
-    let value = (to - from) as u32 * u32::from(relevance) * factor(&head.langs, query, phrase);
-    let (id, score) = (feature.id(), feature.score());
-    for tile in feature.tiles().as_slice() {
-        if lies_in(query, tile) {
-            links.push(Link {
-                layer,
-                from: from as u8,
-                to: to as u8,
-                id,
-                tile: *tile,
-                value,
-                score,
-            })?;
+/// A query over one layer: what stays the same while the links of a feature of the layer are made.
+#[derive(Drop)]
+struct LayerQuery<'a> {
+    head: &'a Head,
+    query: &'a Query,
+    layer: &'a Layer,
+    /// The query's tokens with the layer's replacements.
+    tokens: &'a Tokens,
+    /// The number of the layer.
+    number: u8,
+}
+
+impl LayerQuery<'_> {
+    /// Adds the links of a run that matches a phrase, one for each tile in the box.
+    fn add_run(
+        &self,
+        links: &mut Vec<Link>,
+        feature: &Feature,
+        phrase: &Phrase,
+        from: usize,
+        to: usize,
+    ) -> Result<(), Memory>
+        requires some { from < to }
+        requires few { to ≤ 20 }
+        ensures { OnOk result (links.new.items ≡ links.old.items ++ map (link_of self.now.head.now self.now.query.now self.now.number feature.now phrase.now (from, to)) (filter (lies_in self.now.query.now.bounds) feature.now.tiles)) }
+    {
+        let relevance = phrase.relev;
+        let factor = factor(&self.head.langs, self.query, phrase);
+        let value = (to - from) as u32 * u32::from(relevance) * factor;
+        let (id, score) = (feature.id(), feature.score());
+        for tile in feature.tiles().as_slice() {
+            if lies_in(self.query, tile) {
+                links.push(Link {
+                    layer: self.number,
+                    from: from as u8,
+                    to: to as u8,
+                    id,
+                    tile: *tile,
+                    value,
+                    score,
+                })?;
+            }
+        }
+        Ok(())
+    }
+
+    /// Adds the links of a run, where it matches the phrase.
+    fn add_match(
+        &self,
+        links: &mut Vec<Link>,
+        feature: &Feature,
+        phrase: &Phrase,
+        from: usize,
+        to: usize,
+    ) -> Result<(), Memory>
+        requires some { from < to }
+        requires within { to ≤ length self.now.tokens.now }
+        requires few { length self.now.tokens.now ≤ 20 }
+        requires tokens { self.now.tokens.now ≡ replaced self.now.layer.now.tokens self.now.query.now.tokens }
+        ensures { OnOk result (links.new.items ≡ links.old.items ++ run_links self.now.head.now self.now.query.now self.now.layer.now self.now.number feature.now phrase.now (from, to)) }
+    {
+        let tokens = self.tokens.as_slice();
+        if is_match(tokens, self.query.auto(), from, to, phrase.text.as_str()) {
+            self.add_run(links, feature, phrase, from, to)
+        } else {
+            Ok(())
         }
     }
-    Ok(())
-}
 
-/// Adds the links of a run, where it matches the phrase. `tokens` are the query's with the layer's replacements.
-fn add_match(
-    links: &mut Vec<Link>,
-    head: &Head,
-    query: &Query,
-    layer: &Layer,
-    tokens: &Tokens,
-    number: u8,
-    feature: &Feature,
-    phrase: &Phrase,
-    from: usize,
-    to: usize,
-) -> Result<(), Memory>
-    requires some { from < to }
-    requires within { to ≤ length tokens.now }
-    requires few { length tokens.now ≤ 20 }
-    requires tokens { tokens.now ≡ replaced layer.now.tokens query.now.tokens }
-    ensures { OnOk result (links.new.items ≡ links.old.items ++ run_links head.now query.now layer.now number feature.now phrase.now (from, to)) }
-{
-    if is_match(
-        tokens.as_slice(),
-        query.auto(),
-        from,
-        to,
-        phrase.text.as_str(),
-    ) {
-        add_run(links, head, query, number, feature, phrase, from, to)?;
+    /// Adds the links of the runs from one token on that match a phrase.
+    fn add_runs_from(
+        &self,
+        links: &mut Vec<Link>,
+        feature: &Feature,
+        phrase: &Phrase,
+        from: usize,
+    ) -> Result<(), Memory>
+        requires within { from < length self.now.tokens.now }
+        requires few { length self.now.tokens.now ≤ 20 }
+        requires tokens { self.now.tokens.now ≡ replaced self.now.layer.now.tokens self.now.query.now.tokens }
+        ensures { OnOk result (links.new.items ≡ links.old.items ++ flat_map (run_links self.now.head.now self.now.query.now self.now.layer.now self.now.number feature.now phrase.now) (runs_from (length self.now.tokens.now) from)) }
+    {
+        for to in from + 1..self.tokens.len() + 1 {
+            self.add_match(links, feature, phrase, from, to)?;
+        }
+        Ok(())
     }
-    Ok(())
-}
 
-/// Adds the links of the runs from one token on that match a phrase.
-fn add_runs_from(
-    links: &mut Vec<Link>,
-    head: &Head,
-    query: &Query,
-    layer: &Layer,
-    tokens: &Tokens,
-    number: u8,
-    feature: &Feature,
-    phrase: &Phrase,
-    from: usize,
-) -> Result<(), Memory>
-    requires within { from < length tokens.now }
-    requires few { length tokens.now ≤ 20 }
-    requires tokens { tokens.now ≡ replaced layer.now.tokens query.now.tokens }
-    ensures { OnOk result (links.new.items ≡ links.old.items ++ flat_map (run_links head.now query.now layer.now number feature.now phrase.now) (runs_from (length tokens.now) from)) }
-{
-    for to in from + 1..tokens.len() + 1 {
-        add_match(
-            links, head, query, layer, tokens, number, feature, phrase, from, to,
-        )?;
+    /// Adds the links of the runs that match a phrase.
+    fn add_phrase(
+        &self,
+        links: &mut Vec<Link>,
+        feature: &Feature,
+        phrase: &Phrase,
+    ) -> Result<(), Memory>
+        requires few { length self.now.tokens.now ≤ 20 }
+        requires tokens { self.now.tokens.now ≡ replaced self.now.layer.now.tokens self.now.query.now.tokens }
+        ensures { OnOk result (links.new.items ≡ links.old.items ++ phrase_links self.now.head.now self.now.query.now self.now.layer.now self.now.number feature.now phrase.now) }
+    {
+        for from in 0..self.tokens.len() {
+            self.add_runs_from(links, feature, phrase, from)?;
+        }
+        Ok(())
     }
-    Ok(())
-}
 
-/// Adds the links of the runs that match a phrase.
-fn add_phrase(
-    links: &mut Vec<Link>,
-    head: &Head,
-    query: &Query,
-    layer: &Layer,
-    tokens: &Tokens,
-    number: u8,
-    feature: &Feature,
-    phrase: &Phrase,
-) -> Result<(), Memory>
-    requires few { length tokens.now ≤ 20 }
-    requires tokens { tokens.now ≡ replaced layer.now.tokens query.now.tokens }
-    ensures { OnOk result (links.new.items ≡ links.old.items ++ phrase_links head.now query.now layer.now number feature.now phrase.now) }
-{
-    for from in 0..tokens.len() {
-        add_runs_from(
-            links, head, query, layer, tokens, number, feature, phrase, from,
-        )?;
+    /// Adds the links of a feature of the layer.
+    fn add_feature(&self, links: &mut Vec<Link>, feature: &Feature) -> Result<(), Memory>
+        requires few { length self.now.tokens.now ≤ 20 }
+        requires tokens { self.now.tokens.now ≡ replaced self.now.layer.now.tokens self.now.query.now.tokens }
+        ensures links { OnOk result (links.new.items ≡ links.old.items ++ flat_map (phrase_links self.now.head.now self.now.query.now self.now.layer.now self.now.number feature.now) feature.now.phrases) }
+        ensures feature { IsFeature feature.now }
+    {
+        for phrase in feature.phrases().as_slice() {
+            self.add_phrase(links, feature, phrase)?;
+        }
+        Ok(())
     }
-    Ok(())
-}
-
-/// Adds the links of the runs that match a phrase of a feature.
-fn add_feature(
-    links: &mut Vec<Link>,
-    head: &Head,
-    query: &Query,
-    layer: &Layer,
-    tokens: &Tokens,
-    number: u8,
-    feature: &Feature,
-) -> Result<(), Memory>
-    requires few { length tokens.now ≤ 20 }
-    requires tokens { tokens.now ≡ replaced layer.now.tokens query.now.tokens }
-    ensures links { OnOk result (links.new.items ≡ links.old.items ++ flat_map (phrase_links head.now query.now layer.now number feature.now) feature.now.phrases) }
-    ensures feature { IsFeature feature.now }
-{
-    for phrase in feature.phrases().as_slice() {
-        add_phrase(links, head, query, layer, tokens, number, feature, phrase)?;
-    }
-    Ok(())
 }
 
 /// Adds the links of a feature of a layer, where there is such a layer.
@@ -200,15 +185,14 @@ fn add_entry(
         return Ok(());
     }
     let _tokens = query.tokens(); // brings the rule of a query here: at most 20 tokens
-    add_feature(
-        links,
+    let in_layer = LayerQuery {
         head,
         query,
-        head.layers.at(place),
-        &tokens[place],
+        layer: head.layers.at(place),
+        tokens: &tokens[place],
         number,
-        feature,
-    )
+    };
+    in_layer.add_feature(links, feature)
 }
 
 /// The links of a query over a head and a table. `tokens` are the query's with the replacements of each layer.

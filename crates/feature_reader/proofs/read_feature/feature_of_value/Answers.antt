@@ -9,8 +9,8 @@ use Rattle.feature_reader.specs.Languages.{all_languages}
 use Rattle.feature_reader.specs.Tiles.{tiles_of, rising}
 use Rattle.feature_reader.specs.Feature.{phrases_of, distinct}
 use Rattle.feature_reader.specs.declared.feature.FeatureFault.TheVariants as fault
-use Rattle.feature_reader.proofs.Each.{tiles_of-length}
-use Rattle.feature_reader.proofs.FeatureFacts.{HasParts, level_of, bad_tiles, other_zoom, bad_score, whole_feature}
+use Rattle.feature_reader.proofs.Listed.{tiles_of-length, tiles_of-are}
+use Rattle.feature_reader.proofs.FeatureFacts.{HasParts, level_of, bad_tiles, other_zoom, bad_score, whole_feature, late_faults}
 use Rattle.feature_reader.proofs.read_feature.feature_of_value.Goals as goal
 
 pub returns-in_default-2-clause-fault : goal.returns-in_default-2-clause-fault
@@ -43,6 +43,11 @@ made-requires-clause-few c =
     let tiles : Some c.in-Some-2.tiles.items ≡ tiles_of (member (codes "carmen:zxy") (view c.in-Some.properties.now)) = ap (option_map (λ v. v.items)) (sym c.in-Some-2.is) ∙ c.in_ok-tiles.ensures in
     (tiles_of-length (member (codes "carmen:zxy") (view c.in-Some.properties.now)) c.in-Some-2.tiles.items tiles).1
 
+pub made-requires-clause-tiles : goal.made-requires-clause-tiles
+made-requires-clause-tiles c =
+    let tiles : Some c.in-Some-2.tiles.items ≡ tiles_of (member (codes "carmen:zxy") (view c.in-Some.properties.now)) = ap (option_map (λ v. v.items)) (sym c.in-Some-2.is) ∙ c.in_ok-tiles.ensures in
+    tiles_of-are (member (codes "carmen:zxy") (view c.in-Some.properties.now)) c.in-Some-2.tiles.items tiles
+
 pub returns-clause-feature : goal.returns-clause-feature
 returns-clause-feature c =
     let all : list_all (λ t. t.z == c.args.layer.now.zoom) c.in-Some-2.tiles.items ≡ true = search rules in
@@ -52,3 +57,21 @@ returns-clause-feature c =
     let view_of : Replacements → FeatureView = λ replacements. record { id = c.in-Some-id_of.id; score = c.in-Some-level_in.score; phrases = distinct (phrases_of replacements 100 c.in-Some-text_of.text.now all_languages); tiles = rising c.in-Some-2.tiles.items } in
     whole_feature c.args.layer.now c.args.langs.now _ _ _ _ _ c.in-Some-level_in.score parts all (ap (λ n. ok_or n fault.Score) (sym c.in-Some-level_in.is) ∙ scored)
     ∙ ap Ok (ap view_of (sym c.tokens.ensures.value) ∙ sym c.in_ok-made.ensures)
+
+pub returns-in_err-tiles-clause-outright : goal.returns-in_err-tiles-clause-outright
+returns-in_err-tiles-clause-outright c e early is = absurd (late_faults c.args.layer.now c.args.langs.now (view c.args.value.now) (view c.in-Some.properties.now) c.in-Some-id_of.id c.in-Some-text_of.text.now c.requires c.in-Some.ensures c.in-Some-id_of.ensures c.in-Some-text_of.ensures e early is)
+
+pub returns-in_default-2-clause-outright : goal.returns-in_default-2-clause-outright
+returns-in_default-2-clause-outright c e early is = absurd (late_faults c.args.layer.now c.args.langs.now (view c.args.value.now) (view c.in-Some.properties.now) c.in-Some-id_of.id c.in-Some-text_of.text.now c.requires c.in-Some.ensures c.in-Some-id_of.ensures c.in-Some-text_of.ensures e early is)
+
+pub returns-then-not-are_at_zoom-clause-outright : goal.returns-then-not-are_at_zoom-clause-outright
+returns-then-not-are_at_zoom-clause-outright c e early is = absurd (late_faults c.args.layer.now c.args.langs.now (view c.args.value.now) (view c.in-Some.properties.now) c.in-Some-id_of.id c.in-Some-text_of.text.now c.requires c.in-Some.ensures c.in-Some-id_of.ensures c.in-Some-text_of.ensures e early is)
+
+pub returns-in_default-level_in-clause-outright : goal.returns-in_default-level_in-clause-outright
+returns-in_default-level_in-clause-outright c e early is = absurd (late_faults c.args.layer.now c.args.langs.now (view c.args.value.now) (view c.in-Some.properties.now) c.in-Some-id_of.id c.in-Some-text_of.text.now c.requires c.in-Some.ensures c.in-Some-id_of.ensures c.in-Some-text_of.ensures e early is)
+
+pub returns-in_err-made-clause-outright : goal.returns-in_err-made-clause-outright
+returns-in_err-made-clause-outright c e early is = absurd (late_faults c.args.layer.now c.args.langs.now (view c.args.value.now) (view c.in-Some.properties.now) c.in-Some-id_of.id c.in-Some-text_of.text.now c.requires c.in-Some.ensures c.in-Some-id_of.ensures c.in-Some-text_of.ensures e early is)
+
+pub returns-clause-outright : goal.returns-clause-outright
+returns-clause-outright c e early is = absurd (late_faults c.args.layer.now c.args.langs.now (view c.args.value.now) (view c.in-Some.properties.now) c.in-Some-id_of.id c.in-Some-text_of.text.now c.requires c.in-Some.ensures c.in-Some-id_of.ensures c.in-Some-text_of.ensures e early is)

@@ -1,6 +1,6 @@
 use Rattle.std.proofs.Common.{◌∙◌, ◌<◌, ◌≤◌, length, rules}
 use Rattle.std.proofs.lemmas.Result.{IfOk-weaker}
-use Rattle.feature_reader.proofs.Each.{some_tiles-each}
+use Rattle.feature_reader.proofs.Listed.{some_tiles-each}
 use Rattle.feature_reader.proofs.read_feature.some_tiles.Goals as goal
 
 pub returns : goal.returns

@@ -5,7 +5,7 @@ use Rattle.serde_json.specs.View.{view}
 use Rattle.geo_base.specs.TileView.{TileView}
 use Rattle.geo_layer.specs.Json.{each_of}
 use Rattle.feature_reader.specs.Tiles.{tile_of}
-use Rattle.feature_reader.proofs.Each.{one_more, onto}
+use Rattle.geo_layer.proofs.Each.{one_more, onto}
 use Rattle.feature_reader.proofs.read_feature.tiles_in.Goals as goal
 
 pub loop-value-preserved : goal.loop-value-preserved

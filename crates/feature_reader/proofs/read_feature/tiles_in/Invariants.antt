@@ -4,7 +4,7 @@ use Rattle.serde_json.specs.Find.{as_str}
 use Rattle.serde_json.specs.View.{view}
 use Rattle.geo_layer.specs.Json.{each_of}
 use Rattle.feature_reader.specs.Tiles.{tile_of}
-use Rattle.feature_reader.proofs.Each.{onto}
+use Rattle.geo_layer.proofs.Each.{onto}
 use Rattle.feature_reader.proofs.read_feature.tiles_in.Given as goal
 
 -- the tiles so far, and what the rest gives

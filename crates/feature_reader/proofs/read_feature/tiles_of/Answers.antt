@@ -4,7 +4,7 @@ use Rattle.std.proofs.lemmas.Result.{IfOk-weaker}
 use Rattle.serde_json.specs.Find.{as_array, get}
 use Rattle.serde_json.specs.View.{view, items_view}
 use Rattle.feature_reader.specs.Tiles.{some_tiles}
-use Rattle.feature_reader.proofs.Each.{tiles_of-values}
+use Rattle.feature_reader.proofs.Listed.{tiles_of-values}
 use Rattle.feature_reader.proofs.read_feature.tiles_of.Goals as goal
 
 pub returns-in-Some : goal.returns-in-Some

@@ -1,10 +1,9 @@
 use Rattle.std.proofs.Common.{◌≡◌, ◌∙◌, ◌<◌, ◌≤◌, length, All, sym, ap, subst, arith, rules}
 use Rattle.std.specs.Prelude.{AllPairs}
-use Rattle.geo_base.specs.Context.{Agree}
 use Rattle.geo_base.specs.Answer.{best}
 use Rattle.geo_layer.specs.Layer.{compat}
 use Rattle.plain_answer.specs.Links.{links}
-use Rattle.plain_answer.proofs.Agreeing.{agree, in_layers}
+use Rattle.plain_answer.proofs.Agreeing.{in_layers}
 use Rattle.plain_answer.proofs.Answered.{answered}
 use Rattle.plain_answer.proofs.Rising.{links_rise}
 use Rattle.plain_answer.proofs.answer.answer_plain.Goals as goal
@@ -13,11 +12,6 @@ pub best_contexts-requires-clause-layers : goal.best_contexts-requires-clause-la
 best_contexts-requires-clause-layers c =
     let all : c.deref-3.result.now ≡ links c.args.head.now c.args.table.now c.args.query.now = c.deref-3.ensures.value ∙ c.in_ok-links.ensures in
     subst (All (λ l. l.layer < length c.args.head.now.layers)) (sym all) (in_layers c.args.head.now c.args.table.now c.args.query.now)
-
-pub best_contexts-requires-clause-agree : goal.best_contexts-requires-clause-agree
-best_contexts-requires-clause-agree c =
-    let all : c.deref-3.result.now ≡ links c.args.head.now c.args.table.now c.args.query.now = c.deref-3.ensures.value ∙ c.in_ok-links.ensures in
-    subst Agree (sym all) (agree c.args.head.now c.args.table.now c.args.query.now c.len-features.ensures.is c.requires)
 
 pub best_contexts-requires-clause-rising : goal.best_contexts-requires-clause-rising
 best_contexts-requires-clause-rising c =

@@ -1,12 +1,14 @@
-use Rattle.std.proofs.Common.{◌≡◌, ◌<◌, ◌≤◌, [], true, length, take, drop, filter, All, ◌∙◌, sym, subst, arith, rules}
-use Rattle.std.specs.Prelude.{Contains}
-use Rattle.std.proofs.lemmas.List.Elements.{All-cons, All-take}
+use Rattle.std.proofs.Common.{◌≡◌, ◌<◌, ◌≤◌, ◌-◌, [], ◌∷◌, true, length, take, drop, filter, All, ◌∙◌, sym, ap, subst, arith, rules}
+use Rattle.std.specs.Prelude.{flat_map}
+use Rattle.std.proofs.lemmas.List.Elements.{All-take}
 use Rattle.geo_base.specs.declared.link.Link.{Link}
+use Rattle.geo_base.specs.Best.{best_of}
 use Rattle.geo_base.specs.Link.{stacks, admits_below}
+use Rattle.geo_base.specs.Order.{context_cmp, same_target}
 use Rattle.geo_layer.specs.Layer.{compat}
-use Rattle.plain_answer.specs.Offered.{IsBestOf}
-use Rattle.plain_answer.proofs.Admitted.{kept, admitted_before, admitted_by_all, All-member, each_itself}
-use Rattle.plain_answer.proofs.Offers.{one_target_more}
+use Rattle.plain_answer.specs.Offered.{with_more}
+use Rattle.plain_answer.proofs.Admitted.{kept, admitted_before, admitted_by_all}
+use Rattle.plain_answer.proofs.Offers.{offered_more, one_target_more}
 use Rattle.plain_answer.proofs.chains.best_contexts.Goals as goal
 
 pub offer_with-requires-clause-layers : goal.offer_with-requires-clause-layers
@@ -33,11 +35,12 @@ loop-i-preserved c =
     let before : c.deref.result.now ≡ filter (stacks layers link) (take end links) = search (rules, arith) in
     let least : All (λ l. link.layer ≤ l.layer) (drop end links) = subst (λ (a : Link). All (λ l. a.layer ≤ l.layer) (drop end links)) (sym c.index-links-i.is) (c.smaller_end-end.ensures.rest link) in
     let rest : c.deref.result.now ≡ filter (stacks layers link) links = before ∙ admitted_before layers link end links least in
-    let own = each_itself links in
-    let chosen : Contains links link = All-member links links c.loop-i.i link within c.index-links-i.is own in
-    let first : All (Contains links) c.new-in-loop-i.result = subst (All (Contains links)) (sym c.new-in-loop-i.ensures) (All-cons (Contains links) link [] chosen (λ k d less. absurd (omega (arith, less)))) in
-    let next = c.in_ok-offer_with.ensures links _ c.requires.agree first (kept (Contains links) layers link links c.deref.result.now rest own) c.loop-i.invariant.offered in
+    let seen = flat_map (λ a. with_more layers 15 (a ∷ []) (filter (stacks layers a) links)) (take c.loop-i.i links) in
+    let more = with_more layers (16 - length c.new-in-loop-i.result) c.new-in-loop-i.result c.deref.result.now in
     record {
       end = omega (arith, c.smaller_end-end.ensures.end);
-      offered = subst (λ l. IsBestOf links l c.offer_with.new.top) (one_target_more layers links c.loop-i.i link c.deref.result.now c.new-in-loop-i.result within c.index-links-i.is c.new-in-loop-i.ensures rest) next;
+      offered =
+          c.in_ok-offer_with.ensures
+          ∙ (offered_more c.loop-i.top seen more c.loop-i.invariant.offered
+          ∙ ap (best_of context_cmp same_target 40) (one_target_more layers links c.loop-i.i link c.deref.result.now c.new-in-loop-i.result within c.index-links-i.is c.new-in-loop-i.ensures rest));
     }

@@ -1,6 +1,7 @@
 use Rattle.std.proofs.Common.{◌≡◌, ◌-◌, ◌*◌, ◌≤◌, length, filter}
 use Rattle.std.specs.Prelude.{flat_map}
-use Rattle.plain_answer.specs.Match.{numbers_from, runs_from, matches_in}
+use Rattle.geo_base.specs.Lists.{numbers_from}
+use Rattle.plain_answer.specs.Match.{runs_from, matches_in}
 use Rattle.plain_answer.proofs.count.run_count.Given as goal
 
 -- the runs from the tokens so far that match, at most 20 from each

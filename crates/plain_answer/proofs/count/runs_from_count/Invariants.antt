@@ -1,5 +1,6 @@
 use Rattle.std.proofs.Common.{◌≡◌, ◌+◌, ◌-◌, ◌≤◌, ℕ, length, map, filter}
-use Rattle.plain_answer.specs.Match.{numbers_from, matches}
+use Rattle.geo_base.specs.Lists.{numbers_from}
+use Rattle.plain_answer.specs.Match.{matches}
 use Rattle.plain_answer.proofs.count.runs_from_count.Given as goal
 
 -- the runs so far that match, at most as many as there are
