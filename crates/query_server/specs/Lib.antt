@@ -1,3 +1,4 @@
 pub mod Plain
 pub mod Promise
+-- for private contracts alone
 pub mod Running

@@ -20,7 +20,7 @@ abbrev pub IsProperFront : List ℕ → List ℕ → Type 0
 IsProperFront xs ys = (rest : List ℕ) × (ys ≡ xs ++ rest) × (0 < length rest)
 
 -- what a call took from its source and wrote to its sink, where these tell it; ended: the source was found at its end, below the limit
-pub record Moved (limit : ℕ) (left left_after contents contents_after : Option (List ℕ)) (taken put : List ℕ) (ended : Bool) : Type 0 where
+pub record TookAndWrote (limit : ℕ) (left left_after contents contents_after : Option (List ℕ)) (taken put : List ℕ) (ended : Bool) : Type 0 where
   pub took : Consumes left left_after taken
   pub wrote : Appends contents contents_after put
   pub within : length taken ≤ limit
@@ -31,38 +31,39 @@ abbrev pub IsTextOf : Reading → List ℕ → Type 0
 IsTextOf read put = IsPlainText read.head read.rounds put
 
 -- what each status says of so many bytes taken, of their reading, and of the bytes written
-abbrev pub Says : ℕ → Bool → ℕ → Status → Reading → List ℕ → Type 0
-Says limit ended count Done read put = (read.ending ≡ at_end_line) × IsTextOf read put
-Says limit ended count Usage read put = (count ≡ 0) × (put ≡ [])
-Says limit ended count (BadLine line why) read put = (read.ending ≡ at_bad_line line why) × IsTextOf read put
-Says limit ended count Unended read put = (ended ≡ true) × (read.ending ≡ unended) × IsTextOf read put
-Says limit ended count TooMuch read put = (count ≡ limit) × (ended ≡ false) × (read.ending ≡ unended) × IsTextOf read put
-Says limit ended count ReadFault read put = (ended ≡ false) × (read.ending ≡ unended) × IsTextOf read put
-Says limit ended count WriteFault read put = (text : List ℕ) × IsTextOf read text × IsProperFront put text
-Says limit ended count Memory read put = (text : List ℕ) × IsTextOf read text × IsFront put text
+abbrev pub StatusMeans : ℕ → Bool → ℕ → Status → Reading → List ℕ → Type 0
+StatusMeans limit ended count Done read put = (read.ending ≡ at_end_line) × IsTextOf read put
+StatusMeans limit ended count Usage read put = (count ≡ 0) × (put ≡ [])
+StatusMeans limit ended count (BadLine line why) read put = (read.ending ≡ at_bad_line line why) × IsTextOf read put
+StatusMeans limit ended count Unended read put = (ended ≡ true) × (read.ending ≡ unended) × IsTextOf read put
+StatusMeans limit ended count TooMuch read put = (count ≡ limit) × (ended ≡ false) × (read.ending ≡ unended) × IsTextOf read put
+StatusMeans limit ended count ReadFault read put = (ended ≡ false) × (read.ending ≡ unended) × IsTextOf read put
+StatusMeans limit ended count WriteFault read put = (text : List ℕ) × IsTextOf read text × IsProperFront put text
+StatusMeans limit ended count Memory read put = (text : List ℕ) × IsTextOf read text × IsFront put text
 
 -- the most bytes that are asked for at once
 abbrev pub block_limit : ℕ
 block_limit = 65536
 
--- nothing is read behind the end but what came with its block: before the last bytes, of one block at the most, no line is refused or `end`
-abbrev pub IsNear : Kind → List ℕ → Type 0
-IsNear kind taken = (before : List ℕ) × (last : List ℕ) × (taken ≡ before ++ last) × (length last ≤ block_limit) × ((reading 0 kind false before).ending ≡ unended)
+-- a call reads no further than it has to, and writes before it reads on: before the last bytes, of one block at the most, no line is refused or `end`; and what is written begins with a text of the rounds that were closed before them
+abbrev pub IsPrompt : Kind → List ℕ → List ℕ → Type 0
+IsPrompt kind taken put = (before : List ℕ) × (last : List ℕ) × (taken ≡ before ++ last) × (length last ≤ block_limit)
+    × ((reading 0 kind false before).ending ≡ unended) × ((text : List ℕ) × IsTextOf (reading 0 kind false before) text × IsFront text put)
 
 -- some bytes were taken and some written, as the status says
 abbrev pub EndsAs : ℕ → Kind → Option (List ℕ) → Option (List ℕ) → Option (List ℕ) → Option (List ℕ) → Status → Type 0
 EndsAs limit kind left left_after contents contents_after status =
-    (taken : List ℕ) × (put : List ℕ) × (ended : Bool) × Moved limit left left_after contents contents_after taken put ended
-    × Says limit ended (length taken) status (reading 0 kind ended taken) put × IsNear kind taken
+    (taken : List ℕ) × (put : List ℕ) × (ended : Bool) × TookAndWrote limit left left_after contents contents_after taken put ended
+    × StatusMeans limit ended (length taken) status (reading 0 kind ended taken) put × IsPrompt kind taken put
 
 -- the status that the ending of a reading decides; ended: all of the source was read
-abbrev pub Decides : Bool → Ending → Status → Type 0
-Decides ended at_end_line status = status ≡ Done
-Decides ended (at_bad_line line why) status = status ≡ BadLine line why
-Decides true unended status = status ≡ Unended
-Decides false unended status = status ≡ TooMuch
+abbrev pub IsStatusOf : Bool → Ending → Status → Type 0
+IsStatusOf ended at_end_line status = status ≡ Done
+IsStatusOf ended (at_bad_line line why) status = status ≡ BadLine line why
+IsStatusOf true unended status = status ≡ Unended
+IsStatusOf false unended status = status ≡ TooMuch
 
 -- the bytes of the source, up to the limit, decide the status, but for want of memory
 abbrev pub IsDecided : ℕ → Kind → Option (List ℕ) → Status → Type 0
 IsDecided limit kind left status = IfSome left (λ bytes. (status ≡ Memory)
-    ⊎ Decides (nat_lt (length bytes) limit) (reading 0 kind (nat_lt (length bytes) limit) (take limit bytes)).ending status)
+    ⊎ IsStatusOf (nat_lt (length bytes) limit) (reading 0 kind (nat_lt (length bytes) limit) (take limit bytes)).ending status)

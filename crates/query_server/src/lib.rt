@@ -2,7 +2,8 @@
 //! before more is read.
 #![tactic(auto)]
 
-mod reader;
+pub mod laws;
+mod line_reader;
 mod respond;
 pub mod run;
 mod running;

@@ -1,15 +1,15 @@
 //! Answers the lines of a round in order, and makes their text.
 
-ghost use Rattle.std.specs.Prelude.{◌≡◌, ◌⊎◌, ◌<◌, ◌≤◌, ℕ, List, [], ◌∷◌, length, All, IsAscii, OnOk, IfOk};
+ghost use Rattle.std.specs.Prelude.{◌≡◌, ◌⊎◌, ◌<◌, ◌≤◌, ℕ, false, List, [], ◌∷◌, length, All, IsAscii, OnOk, IfOk};
 ghost use Rattle.geo_layer.specs.declared.head.Head.{Head};
 ghost use Rattle.geo_query.specs.declared.reply.Reply.{Reply};
 ghost use Rattle.plain_answer.specs.Answering.{answer_of, IsOfHead};
 ghost use Rattle.feature_reader.specs.Table.{put, put_answer};
-ghost use Rattle.session_text.specs.Generations.{built_0};
+ghost use Rattle.session_text.specs.Generations.{new_builder};
 ghost use Rattle.session_text.specs.declared.body.BodyLine.{BodyLine};
 ghost use Rattle.session_text.specs.declared.body.BodyLine.TheVariants as body;
-ghost use Rattle.query_server.specs.Plain.{reply_of, reply_to, no_asks};
-ghost use Rattle.query_server.specs.Running.{built_of, IsStep, IsAnswered, IsReady};
+ghost use Rattle.query_server.specs.Plain.{reply_of, reply_to, is_refused_outright, no_asks};
+ghost use Rattle.query_server.specs.Running.{builder_of, IsStep, IsAnswered, IsReady};
 
 use feature_reader::feature::Feature;
 use feature_reader::table::FeatureTable;
@@ -49,7 +49,7 @@ pub struct Standing {
 impl Standing {
     /// What stands before the first line of the body.
     pub fn new(alloc: Global) -> Standing
-        ensures built { (head : Head) → built_of head result ≡ built_0 head }
+        ensures builder { (head : Head) → builder_of head result ≡ new_builder head }
         ensures asks { result.asks ≡ no_asks }
     {
         Standing {
@@ -90,7 +90,7 @@ fn answered(alloc: Global, head: &Head, standing: &Standing, query: &Query) -> R
 fn reply(alloc: Global, head: &Head, standing: &Standing, text: &str) -> Reply
     requires ascii { IsAscii text.now }
     requires head { IsOfHead head.now standing.now.published }
-    ensures { (result ≡ reply_to (built_of head.now standing.now).last text.now) ⊎ (result ≡ Reply.Memory) }
+    ensures { (result ≡ reply_to (builder_of head.now standing.now).last text.now) ⊎ ((is_refused_outright text.now ≡ false) × (result ≡ Reply.Memory)) }
 {
     match read_query(alloc, text) {
         Ok(query) => answered(alloc, head, standing, &query),

@@ -1,6 +1,6 @@
 //! A session from a source, its answers to a sink.
 
-ghost use Rattle.std.specs.Prelude.{◌≡◌, ◌≤◌};
+ghost use Rattle.std.specs.Prelude.{◌≡◌, ◌≢◌, ◌≤◌};
 ghost use Rattle.geo_outside.specs.Device.{Rose};
 ghost use Rattle.query_server.specs.Promise.{byte_limit, EndsAs, IsDecided};
 
@@ -31,7 +31,8 @@ const BLOCK: usize = 65_536;
 ///   written, and not all of it.
 /// - `Memory`: room was asked for and refused, which no clause says; a front of such a text was written.
 ///
-/// `Usage` never comes. Where neither count of faults rose, the bytes of the source alone decide the status, but for
+/// `Usage` never comes. No fault is passed over: any other status than `ReadFault` leaves the source's count of faults, and
+/// any other than `WriteFault` the sink's. Where neither count of faults rose, the bytes of the source alone decide the status, but for
 /// `Memory`.
 pub fn run_plain<S: Source, K: Sink>(
     alloc: Global,
@@ -46,6 +47,7 @@ pub fn run_plain<S: Source, K: Sink>(
     ensures decided { ¬ (Rose (S.faults source.old) (S.faults source.new)) → ¬ (Rose (K.faults sink.old) (K.faults sink.new))
         → IsDecided byte_limit kind (S.left source.old) result }
     ensures later { (S.faults source.old ≤ S.faults source.new) × (K.faults sink.old ≤ K.faults sink.new) }
+    ensures kept { (result ≢ Status.ReadFault → S.faults source.new ≡ S.faults source.old) × (result ≢ Status.WriteFault → K.faults sink.new ≡ K.faults sink.old) }
 {
     let mut running = Running::new(alloc, kind);
     let mut block = [0u8; BLOCK];

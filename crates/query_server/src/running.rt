@@ -1,15 +1,15 @@
 //! A session on its way from the source to the sink: each closed round is answered and written before more is read.
 
-ghost use Rattle.std.specs.Prelude.{◌≡◌, ◌<◌, ◌≤◌, ℕ, true, ◌+◌, ◌++◌, ◌∷◌, [], List, length, Option, None, Some};
+ghost use Rattle.std.specs.Prelude.{◌≡◌, ◌≢◌, ◌<◌, ◌≤◌, ℕ, true, ◌+◌, ◌++◌, ◌∷◌, [], List, length, Option, None, Some};
 ghost use Rattle.std.specs.Io.KnownBytes.{Appends};
 ghost use Rattle.geo_outside.specs.Device.{Rose};
 ghost use Rattle.session_text.specs.Reading.{NoFeed, reading};
 ghost use Rattle.session_text.specs.declared.session.Kind.{Kind};
 ghost use Rattle.session_text.specs.declared.status.Status.TheVariants as status;
-ghost use Rattle.query_server.specs.Promise.{Says};
-ghost use Rattle.query_server.specs.Running.{IsAt, IsFit, Goes, IsReady, IsRoundWritten};
+ghost use Rattle.query_server.specs.Promise.{StatusMeans};
+ghost use Rattle.query_server.specs.Running.{IsAt, IsUnderWay, GoesOnOrEnds, IsReady, IsRoundWritten};
 
-use crate::reader::{Reader, next_line};
+use crate::line_reader::{LineReader, next_line};
 use crate::respond::{Standing, answer_round};
 use crate::transfer::put_all;
 use geo_base::refusal::Refused;
@@ -23,7 +23,7 @@ use std::alloc::Global;
 #[derive(Drop)]
 pub struct Running {
     /// What was read.
-    pub reader: Reader,
+    pub reader: LineReader,
     /// What the lines of the closed rounds left.
     pub standing: Standing,
     alloc: Global,
@@ -33,11 +33,11 @@ impl Running {
     /// A call before the first byte of its source.
     pub fn new(alloc: Global, kind: Kind) -> Running
         ensures at { IsAt kind [] [] result }
-        ensures fits { IsFit result }
+        ensures fits { IsUnderWay result }
         ensures line { result.reader.line ≡ 1 }
     {
         Running {
-            reader: Reader::new(alloc, kind),
+            reader: LineReader::new(alloc, kind),
             standing: Standing::new(alloc),
             alloc,
         }
@@ -51,6 +51,7 @@ impl Running {
             × IsRoundWritten self.old.reader.session.head round self.old.standing self.new.standing result put }
         ensures ready { (bound : ℕ) → IsReady self.old.reader.session.head bound round self.old.standing → result ≡ None → IsReady self.old.reader.session.head bound [] self.new.standing }
         ensures later { K.faults sink.old ≤ K.faults sink.new }
+        ensures kept { result ≢ Some status.WriteFault → K.faults sink.new ≡ K.faults sink.old }
         ensures cause { result ≡ Some status.WriteFault → Rose (K.faults sink.old) (K.faults sink.new) }
     {
         let head = self.reader.session.head();
@@ -67,16 +68,17 @@ impl Running {
     /// Takes these bytes as the end of the open line, which a line feed follows; answers the status where the line ends the
     /// call.
     fn line<K: Sink>(&mut self, part: &[u8], sink: &mut K) -> Option<Status>
-        requires fits { IsFit self.old }
+        requires fits { IsUnderWay self.old }
         requires part { NoFeed part.now }
         requires number { self.old.reader.line < 4294967295 }
         ensures goes { (kind : Kind) → (bytes written : List ℕ) → IsAt kind bytes written self.old
-            → (put : List ℕ) × Appends (K.contents sink.old) (K.contents sink.new) put × Goes kind (bytes ++ part.now ++ 10 ∷ []) (written ++ put) result self.new }
-        ensures fits { result ≡ None → IsFit self.new }
+            → (put : List ℕ) × Appends (K.contents sink.old) (K.contents sink.new) put × GoesOnOrEnds kind (bytes ++ part.now ++ 10 ∷ []) (written ++ put) result self.new }
+        ensures fits { result ≡ None → IsUnderWay self.new }
         ensures number { result ≡ None → self.new.reader.line ≡ self.old.reader.line + 1 }
         ensures begun { result ≡ None → self.new.reader.begun.items ≡ [] }
         ensures statuses { ¬ (result ≡ Some status.Usage) × ¬ (result ≡ Some status.TooMuch) × ¬ (result ≡ Some status.ReadFault) }
         ensures later { K.faults sink.old ≤ K.faults sink.new }
+        ensures kept { result ≢ Some status.WriteFault → K.faults sink.new ≡ K.faults sink.old }
         ensures cause { result ≡ Some status.WriteFault → Rose (K.faults sink.old) (K.faults sink.new) }
     {
         match self.reader.end_line(part) {
@@ -93,13 +95,14 @@ impl Running {
 
     /// Takes some bytes of the source; answers the status where one of their lines ends the call.
     pub fn take<K: Sink>(&mut self, block: &[u8], sink: &mut K) -> Option<Status>
-        requires fits { IsFit self.old }
+        requires fits { IsUnderWay self.old }
         requires number { self.old.reader.line + length block.now ≤ 4294967295 }
         ensures goes { (kind : Kind) → (bytes written : List ℕ) → IsAt kind bytes written self.old
-            → (put : List ℕ) × Appends (K.contents sink.old) (K.contents sink.new) put × Goes kind (bytes ++ block.now) (written ++ put) result self.new }
-        ensures fits { result ≡ None → IsFit self.new }
+            → (put : List ℕ) × Appends (K.contents sink.old) (K.contents sink.new) put × GoesOnOrEnds kind (bytes ++ block.now) (written ++ put) result self.new }
+        ensures fits { result ≡ None → IsUnderWay self.new }
         ensures number { result ≡ None → self.new.reader.line ≤ self.old.reader.line + length block.now }
         ensures later { K.faults sink.old ≤ K.faults sink.new }
+        ensures kept { result ≢ Some status.WriteFault → K.faults sink.new ≡ K.faults sink.old }
         ensures cause { result ≡ Some status.WriteFault → Rose (K.faults sink.old) (K.faults sink.new) }
     {
         let mut rest = block;
@@ -114,10 +117,10 @@ impl Running {
 
     /// Takes bytes in which no line ends.
     fn go_on(&mut self, part: &[u8]) -> Option<Status>
-        requires fits { IsFit self.old }
+        requires fits { IsUnderWay self.old }
         requires part { NoFeed part.now }
-        ensures goes { (kind : Kind) → (bytes written : List ℕ) → IsAt kind bytes written self.old → Goes kind (bytes ++ part.now) written result self.new }
-        ensures fits { result ≡ None → IsFit self.new }
+        ensures goes { (kind : Kind) → (bytes written : List ℕ) → IsAt kind bytes written self.old → GoesOnOrEnds kind (bytes ++ part.now) written result self.new }
+        ensures fits { result ≡ None → IsUnderWay self.new }
         ensures number { self.new.reader.line ≡ self.old.reader.line }
         ensures cause { ¬ (result ≡ Some status.WriteFault) }
     {
@@ -133,12 +136,13 @@ impl Running {
 
     /// Ends where the source has nothing left: what has come of the open line is the last one, where it is `end`.
     pub fn end<K: Sink>(&mut self, sink: &mut K) -> Status
-        requires fits { IsFit self.old }
+        requires fits { IsUnderWay self.old }
         requires number { self.old.reader.line < 4294967295 }
         ensures says { (kind : Kind) → (bytes written : List ℕ) → IsAt kind bytes written self.old
-            → (put : List ℕ) × Appends (K.contents sink.old) (K.contents sink.new) put × ((limit count : ℕ) → Says limit true count result (reading 0 kind true bytes) (written ++ put)) }
+            → (put : List ℕ) × Appends (K.contents sink.old) (K.contents sink.new) put × ((limit count : ℕ) → StatusMeans limit true count result (reading 0 kind true bytes) (written ++ put)) }
         ensures statuses { ¬ (result ≡ status.Usage) × ¬ (result ≡ status.TooMuch) × ¬ (result ≡ status.ReadFault) }
         ensures later { K.faults sink.old ≤ K.faults sink.new }
+        ensures kept { result ≢ status.WriteFault → K.faults sink.new ≡ K.faults sink.old }
         ensures cause { result ≡ status.WriteFault → Rose (K.faults sink.old) (K.faults sink.new) }
     {
         if !self.reader.is_at_end() {

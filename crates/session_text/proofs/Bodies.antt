@@ -8,18 +8,18 @@ use Rattle.geo_text.specs.Numbers.{number_of}
 use Rattle.geo_text.specs.Tokens.{is_ascii}
 use Rattle.geo_text.specs.Words.{words_of, first_word, after_word}
 use Rattle.geo_text.proofs.Ascii.{is_ascii-all}
-use Rattle.geo_layer.specs.Json.{data_of}
+use Rattle.geo_layer.specs.Json.{data_of, wanted}
 use Rattle.geo_layer.specs.Langs.{langs_of}
-use Rattle.geo_layer.specs.LayerText.{layer_of, is_simple}
+use Rattle.geo_layer.specs.LayerText.{layer_of, is_simple_layer}
 use Rattle.geo_layer.specs.declared.head.Head.{Head}
 use Rattle.geo_query.specs.Query.{asks_language}
 use Rattle.feature_reader.specs.Feature.{feature_of_data, feature_of}
-use Rattle.feature_reader.specs.Simple as feature
+use Rattle.feature_reader.specs.Simple.{is_simple_feature}
 use Rattle.feature_reader.specs.declared.feature.FeatureFault.{FeatureFault}
 use Rattle.feature_reader.specs.declared.feature.FeatureFault.TheVariants as fault
-use Rattle.feature_reader.proofs.Zooms.{AtZoom, bind_ok, check_ok, feature_zoom}
+use Rattle.feature_reader.proofs.Zooms.{AtZoom, bind_ok, wanted_ok, feature_zoom}
 use Rattle.session_text.specs.Lines.{longest, line_text, is_skipped, next_field}
-use Rattle.session_text.specs.Session.{SessionView, wanted, supported, one_number, two_numbers, are_simple, of_layer, of_feature, title_line, langs_line, layer_line, put_line, drop_line, load_line, limit_line, is_asking, ask_line, bare_line, word_of, line_of_word, body_line, head_line, already, staged_line, line_at, after_item, step_of, IsLineOf}
+use Rattle.session_text.specs.Session.{SessionView, supported, one_number, two_numbers, are_simple, of_layer, of_feature, title_line, langs_line, layer_line, put_line, drop_line, load_line, limit_line, is_asking, ask_line, bare_line, word_of, line_of_word, body_line, head_line, already, staged_line, line_at, after_item, step_of, IsLineOf}
 use Rattle.session_text.specs.Reading.{reading_after, reading_from, after_step}
 use Rattle.session_text.specs.declared.body.BodyLine.{BodyLine}
 use Rattle.session_text.specs.declared.body.BodyLine.TheVariants.{Put, Drop, Load, Limit, Publish, Ask}
@@ -59,7 +59,7 @@ OfBody head End = ⊤
 put_fits : (head : Head) (text : List ℕ) (item : Item) → put_line head text ≡ Ok item → OfBody head item
 put_fits head text item e =
     let (n, is_n, e₁) = bind_ok (ok_or (number_of (first_word (next_field text))) why.Form) _ item e in
-    let (u, is_u, e₂) = bind_ok (supported text (are_simple feature.is_simple (next_field (next_field text)))) _ item e₁ in
+    let (u, is_u, e₂) = bind_ok (supported text (are_simple is_simple_feature (next_field (next_field text)))) _ item e₁ in
     let (layer, is_layer, e₃) = bind_ok (ok_or (slice_get head.layers n) why.Number) _ item e₂ in
     let (f, is_f, e₄) = bind_ok (of_feature (feature_of layer head.langs (next_field (next_field text)))) _ item e₃ in
     let (d, is_d, e₅) = bind_ok (ok_or (data_of (next_field (next_field text))) fault.Json) (λ d. feature_of_data layer head.langs d) f (feature_ok (feature_of layer head.langs (next_field (next_field text))) f is_f) in
@@ -99,8 +99,8 @@ ask_fits head round text item e =
     let (u, is_u, e₂) = bind_ok (supported text (not (asks_language (after_word (next_field text))))) _ item e₁ in
     let (v, is_v, e₃) = bind_ok (wanted (nat_lt lane 8) why.Number) _ item e₂ in
     let (w, is_w, e₄) = bind_ok (wanted (nat_lt (count_by is_asking round) 4096) why.Asks) _ item e₃ in
-    let whole = and_parts (is_ascii text) (not (asks_language (after_word (next_field text)))) (check_ok (is_ascii text && not (asks_language (after_word (next_field text)))) tt u why.NotYet is_u).0 in
-    let low = ltb-true lane 8 (check_ok (nat_lt lane 8) tt v why.Number is_v).0 in
+    let whole = and_parts (is_ascii text) (not (asks_language (after_word (next_field text)))) (wanted_ok (is_ascii text && not (asks_language (after_word (next_field text)))) why.NotYet u is_u) in
+    let low = ltb-true lane 8 (wanted_ok (nat_lt lane 8) why.Number v is_v) in
     let field : is_ascii (next_field text) ≡ true = skipped-ascii (after_word text) (after-ascii (λ b. b == 32) text whole.0) in
     let query = is_ascii-all (after_word (next_field text)) (after-ascii (λ b. b == 32) (next_field text) field) in
     let same : Body (Ask lane (after_word (next_field text))) ≡ item = cc e₄ in
@@ -131,13 +131,8 @@ body_fits s text item e = word_fits s text (word_of (first_word text)) item e
 
 -- a line of the body keeps what the head asks for
 abbrev Fitting : Head → Item → Type 0
-Fitting head Skipped = ⊤
-Fitting head Title = ⊤
-Fitting head (Langs codes) = ⊤
-Fitting head (Layer layer) = ⊤
 Fitting head (Body said) = IsLineOf head said
-Fitting head Join = ⊤
-Fitting head End = ⊤
+Fitting head item = ⊤
 
 fitting : (head : Head) (item : Item) → OfBody head item → Fitting head item
 fitting head Skipped of_body = tt
@@ -163,7 +158,7 @@ langs_fits head text item e =
 
 layer_fits : (head : Head) (text : List ℕ) (item : Item) → layer_line head.layers text ≡ Ok item → Fitting head item
 layer_fits head text item e =
-    let (u, is_u, e₁) = bind_ok (supported text (are_simple is_simple (next_field text))) _ item e in
+    let (u, is_u, e₁) = bind_ok (supported text (are_simple is_simple_layer (next_field text))) _ item e in
     let (found, is_found, e₂) = bind_ok (of_layer (layer_of head.layers (next_field text))) _ item e₁ in
     let same : Layer found ≡ item = cc e₂ in
     subst (Fitting head) same tt
@@ -206,20 +201,7 @@ fits_head s line said e = taken s line (Body said) (Fitting s.head) tt (staged_f
 in_body : (s : SessionView) (line : List ℕ) (item : Item) → s.stage ≡ at.InBody → line_at s line ≡ Ok item → OfBody s.head item
 in_body s line item stage e = taken s line item (OfBody s.head) tt (λ says. body_fits s (line_text line) item (subst (λ (st : Stage). staged_line s st (line_text line) ≡ Ok item) stage says)) e
 
--- what such a line leaves as it is
-body_stays : (s : SessionView) (item : Item) → OfBody s.head item → (after_item s item).head ≡ s.head
-body_stays s Skipped of_body = refl
-body_stays s Title of_body = refl
-body_stays s (Langs codes) of_body = absurd of_body
-body_stays s (Layer layer) of_body = absurd of_body
-body_stays s (Body said) of_body = refl
-body_stays s Join of_body = refl
-body_stays s End of_body = refl
-
--- a line of the body leaves the head as it is
-pub head_stays : (s : SessionView) (item : Item) (line : List ℕ) → s.stage ≡ at.InBody → line_at s line ≡ Ok item → (after_item s item).head ≡ s.head
-head_stays s item line stage e = body_stays s item (in_body s line item stage e)
-
+-- where the lines behind a line keep it, that line and they do
 step_head : (s : SessionView) (n : ℕ) (lines : List (List ℕ)) (item : Item) → s.stage ≡ at.InBody → OfBody s.head item
     → ((next : SessionView) → next.stage ≡ at.InBody → (reading_from next (n + 1) lines).head ≡ next.head)
     → (after_step (step_of s.round item) (after_item s item) (λ next. reading_from next (n + 1) lines)).head ≡ s.head
@@ -231,7 +213,7 @@ step_head s n lines (Body said) stage of_body later = later (after_item s (Body 
 step_head s n lines Join stage of_body later = later (after_item s Join) refl
 step_head s n lines End stage of_body later = refl
 
--- so does the reading from there on
+-- a reading that begins in the body keeps the head
 pub reading_head : (s : SessionView) (n : ℕ) (lines : List (List ℕ)) → s.stage ≡ at.InBody → (reading_from s n lines).head ≡ s.head
 reading_head s n [] stage = refl
 reading_head s n (line ∷ lines) stage = by (line_at s line) refl (λ next inside. reading_head next (n + 1) lines inside)

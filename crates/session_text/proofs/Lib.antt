@@ -3,4 +3,6 @@ pub mod Ascii
 pub mod Bodies
 pub mod Fronts
 pub mod LoadFacts
-mod Numbered
+pub mod Numbered
+mod PutFacts
+mod Rooms

@@ -1,9 +1,10 @@
--- Generations are numbered from the one published last on.
-use Rattle.std.proofs.Common.{◌≡◌, ◌+◌, ℕ, zero, suc, List, [], ◌∷◌, Some, sym, ap, arith}
+-- The list of generations: their numbers, and which one is published last.
+use Rattle.std.proofs.Common.{◌≡◌, ◌∙◌, ◌+◌, ℕ, zero, suc, false, cond, List, [], ◌∷◌, ◌++◌, Some, refl, sym, ap, zero-add, arith}
 use Rattle.std.specs.Prelude.{slice_get}
+use Rattle.std.proofs.lemmas.List.Sums.{sum_by-cons}
 use Rattle.session_text.specs.declared.body.BodyLine.{BodyLine}
 use Rattle.session_text.specs.declared.body.BodyLine.TheVariants.{Put, Drop, Load, Limit, Publish, Ask}
-use Rattle.session_text.specs.Generations.{Generation, Built, after_line, generations}
+use Rattle.session_text.specs.Generations.{Generation, BuilderState, after_line, builder_after, generations, is_publication, publications}
 
 -- the first is the one published last, and those after it come later
 at_first : (g : Generation) (gs : List Generation) (k : ℕ) (h : Generation) → slice_get (g ∷ gs) k ≡ Some h
@@ -11,11 +12,46 @@ at_first : (g : Generation) (gs : List Generation) (k : ℕ) (h : Generation) �
 at_first g gs zero h is later = let same : g ≡ h = cc is in let n : h.number ≡ g.number = ap (λ (x : Generation). x.number) (sym same) in omega (arith, n)
 at_first g gs (suc k) h is later = let n : h.number ≡ g.number + 1 + k = later k is in omega (arith, n)
 
-pub numbered : (built : Built) (lines : List BodyLine) (k : ℕ) (g : Generation) → slice_get (generations built lines) k ≡ Some g → g.number ≡ built.last.number + k
-numbered built [] k g is = at_first built.last [] k g is (λ n none. absurd (cc none))
-numbered built (Put layer f ∷ lines) k g is = numbered (after_line built (Put layer f)) lines k g is
-numbered built (Drop layer id ∷ lines) k g is = numbered (after_line built (Drop layer id)) lines k g is
-numbered built (Load feed layer ∷ lines) k g is = numbered (after_line built (Load feed layer)) lines k g is
-numbered built (Limit n ∷ lines) k g is = numbered (after_line built (Limit n)) lines k g is
-numbered built (Publish ∷ lines) k g is = at_first built.last (generations (after_line built Publish) lines) k g is (λ n there. numbered (after_line built Publish) lines n g there)
-numbered built (Ask lane text ∷ lines) k g is = numbered (after_line built (Ask lane text)) lines k g is
+pub numbered : (builder : BuilderState) (lines : List BodyLine) (k : ℕ) (g : Generation) → slice_get (generations builder lines) k ≡ Some g → g.number ≡ builder.last.number + k
+numbered builder [] k g is = at_first builder.last [] k g is (λ n none. absurd (cc none))
+numbered builder (Put layer f ∷ lines) k g is = numbered (after_line builder (Put layer f)) lines k g is
+numbered builder (Drop layer id ∷ lines) k g is = numbered (after_line builder (Drop layer id)) lines k g is
+numbered builder (Load feed layer ∷ lines) k g is = numbered (after_line builder (Load feed layer)) lines k g is
+numbered builder (Limit n ∷ lines) k g is = numbered (after_line builder (Limit n)) lines k g is
+numbered builder (Publish ∷ lines) k g is = at_first builder.last (generations (after_line builder Publish) lines) k g is (λ n there. numbered (after_line builder Publish) lines n g there)
+numbered builder (Ask lane text ∷ lines) k g is = numbered (after_line builder (Ask lane text)) lines k g is
+
+-- ---- the generation that is published last
+
+-- before any line it is the first
+starts_with_last : (builder : BuilderState) (lines : List BodyLine) → slice_get (generations builder lines) 0 ≡ Some builder.last
+starts_with_last builder [] = refl
+starts_with_last builder (Put layer f ∷ lines) = starts_with_last (after_line builder (Put layer f)) lines
+starts_with_last builder (Drop layer id ∷ lines) = starts_with_last (after_line builder (Drop layer id)) lines
+starts_with_last builder (Load feed layer ∷ lines) = starts_with_last (after_line builder (Load feed layer)) lines
+starts_with_last builder (Limit n ∷ lines) = starts_with_last (after_line builder (Limit n)) lines
+starts_with_last builder (Publish ∷ lines) = refl
+starts_with_last builder (Ask lane text ∷ lines) = starts_with_last (after_line builder (Ask lane text)) lines
+
+-- a line that publishes none leaves their number
+no_more : (line : BodyLine) (lines : List BodyLine) → is_publication line ≡ false → publications (line ∷ lines) ≡ publications lines
+no_more line lines other = sum_by-cons (λ (x : BodyLine). cond (is_publication x) 1 0) line lines ∙ ap (λ b. cond b 1 0 + publications lines) other ∙ zero-add (publications lines)
+
+one_more : (lines : List BodyLine) → publications (Publish ∷ lines) ≡ suc (publications lines)
+one_more lines = let more : publications (Publish ∷ lines) ≡ 1 + publications lines = sum_by-cons (λ (x : BodyLine). cond (is_publication x) 1 0) Publish lines in omega (arith, more)
+
+goes_past : (builder : BuilderState) (line : BodyLine) (before later : List BodyLine) → is_publication line ≡ false
+    → slice_get (generations (after_line builder line) (before ++ later)) (publications before) ≡ Some (builder_after (after_line builder line) before).last
+    → slice_get (generations (after_line builder line) (before ++ later)) (publications (line ∷ before)) ≡ Some (builder_after (after_line builder line) before).last
+goes_past builder line before later other is = ap (slice_get (generations (after_line builder line) (before ++ later))) (no_more line before other) ∙ is
+
+-- behind some lines its place is the number of publications among them
+pub last_published : (builder : BuilderState) (before later : List BodyLine) → slice_get (generations builder (before ++ later)) (publications before) ≡ Some (builder_after builder before).last
+last_published builder [] later = starts_with_last builder later
+last_published builder (Put layer f ∷ before) later = goes_past builder (Put layer f) before later refl (last_published (after_line builder (Put layer f)) before later)
+last_published builder (Drop layer id ∷ before) later = goes_past builder (Drop layer id) before later refl (last_published (after_line builder (Drop layer id)) before later)
+last_published builder (Load feed layer ∷ before) later = goes_past builder (Load feed layer) before later refl (last_published (after_line builder (Load feed layer)) before later)
+last_published builder (Limit n ∷ before) later = goes_past builder (Limit n) before later refl (last_published (after_line builder (Limit n)) before later)
+last_published builder (Publish ∷ before) later =
+    ap (slice_get (builder.last ∷ generations (after_line builder Publish) (before ++ later))) (one_more before) ∙ last_published (after_line builder Publish) before later
+last_published builder (Ask lane text ∷ before) later = goes_past builder (Ask lane text) before later refl (last_published (after_line builder (Ask lane text)) before later)

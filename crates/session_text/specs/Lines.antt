@@ -13,13 +13,13 @@ abbrev pub line_text : List ℕ → List ℕ
 line_text line = strip_carriage_return line
 
 -- the text begins with this byte
-abbrev pub begins_with : ℕ → List ℕ → Bool
-begins_with c [] = false
-begins_with c (b ∷ bs) = b == c
+abbrev pub begins_with_byte : ℕ → List ℕ → Bool
+begins_with_byte c [] = false
+begins_with_byte c (b ∷ bs) = b == c
 
 -- an empty line, a line of spaces and a line that begins with `#` are skipped
 abbrev pub is_skipped : List ℕ → Bool
-is_skipped text = list_all (λ b. b == 32) text || begins_with 35 text
+is_skipped text = list_all (λ b. b == 32) text || begins_with_byte 35 text
 
 -- what follows the first word and its spaces
 abbrev pub next_field : List ℕ → List ℕ

@@ -6,15 +6,15 @@ use Rattle.serde_json.specs.Data.{Data}
 use Rattle.geo_text.specs.Numbers.{number_of, numbers_of}
 use Rattle.geo_text.specs.Tokens.{is_ascii}
 use Rattle.geo_text.specs.Words.{words_of, first_word, after_word}
-use Rattle.geo_layer.specs.Json.{data_of, ◌>>=◌}
+use Rattle.geo_layer.specs.Json.{data_of, ◌>>=◌, wanted}
 use Rattle.geo_layer.specs.declared.head.Head.{Head}
 use Rattle.geo_layer.specs.Langs.{langs_of}
 use Rattle.geo_layer.specs.Layer.{LayerView}
-use Rattle.geo_layer.specs.LayerText.{layer_of, is_simple, last_zoom}
+use Rattle.geo_layer.specs.LayerText.{layer_of, is_simple_layer, last_zoom}
 use Rattle.geo_layer.specs.declared.layer.LayerFault.{LayerFault}
 use Rattle.geo_query.specs.Query.{asks_language}
 use Rattle.feature_reader.specs.Feature.{feature_of}
-use Rattle.feature_reader.specs.Simple as feature
+use Rattle.feature_reader.specs.Simple.{is_simple_feature}
 use Rattle.feature_reader.specs.declared.feature.FeatureFault.{FeatureFault}
 use Rattle.session_text.specs.Lines.{longest, line_text, is_skipped, next_field}
 use Rattle.session_text.specs.declared.body.BodyLine.{BodyLine}
@@ -45,10 +45,6 @@ abbrev pub start : ℕ → Kind → SessionView
 start feeds kind = record { stage = at.BeforeHead; head = record { langs = []; layers = [] }; round = []; named = []; feeds = feeds; kind = kind }
 
 -- ---- tests and fields
-
--- the fault, unless the test holds
-abbrev pub wanted : Bool → Why → Result (Unit {0}) Why
-wanted test fault = if test then Ok tt else Err fault
 
 -- what this program can't read yet: a text that isn't ASCII, and what else the test refuses
 abbrev pub supported : List ℕ → Bool → Result (Unit {0}) Why
@@ -102,7 +98,7 @@ langs_line text = supported text true >>= λ _. ok_or (langs_of (after_word text
 
 -- `layer JSON`
 abbrev pub layer_line : List LayerView → List ℕ → Result Item Why
-layer_line layers text = supported text (are_simple is_simple (next_field text)) >>= λ _. of_layer (layer_of layers (next_field text)) >>= λ layer. Ok (Layer layer)
+layer_line layers text = supported text (are_simple is_simple_layer (next_field text)) >>= λ _. of_layer (layer_of layers (next_field text)) >>= λ layer. Ok (Layer layer)
 
 -- ---- the lines of the body
 
@@ -111,7 +107,7 @@ abbrev pub put_line : Head → List ℕ → Result Item Why
 put_line head text =
     let json = next_field (next_field text) in
     ok_or (number_of (first_word (next_field text))) why.Form >>= λ n.
-    supported text (are_simple feature.is_simple json) >>= λ _.
+    supported text (are_simple is_simple_feature json) >>= λ _.
     ok_or (slice_get head.layers n) why.Number >>= λ layer.
     of_feature (feature_of layer head.langs json) >>= λ f.
     Ok (Body (Put n f))
@@ -144,11 +140,7 @@ limit_line text =
 -- the line asks something
 abbrev pub is_asking : BodyLine → Bool
 is_asking (Ask lane text) = true
-is_asking (Put layer f) = false
-is_asking (Drop layer id) = false
-is_asking (Load feed layer) = false
-is_asking (Limit n) = false
-is_asking Publish = false
+is_asking line = false
 
 -- `ask LANE QUERY`: at most 4,096 in a round
 abbrev pub ask_line : List BodyLine → List ℕ → Result Item Why
@@ -205,12 +197,8 @@ head_line session first text =
 
 -- a spent session answers its fault again
 abbrev pub already : Stage → Result (Unit {0}) Why
-already at.BeforeHead = Ok tt
-already at.AfterTitle = Ok tt
-already at.InHead = Ok tt
-already at.InBody = Ok tt
-already at.Ended = Ok tt
 already (at.Spent fault) = Err fault
+already stage = Ok tt
 
 -- a line that isn't skipped, by the stage
 abbrev pub staged_line : SessionView → Stage → List ℕ → Result Item Why
@@ -234,11 +222,7 @@ line_at session line =
 -- the feed that a line names
 abbrev pub named_by : BodyLine → List ℕ
 named_by (Load feed layer) = feed ∷ []
-named_by (Put layer f) = []
-named_by (Drop layer id) = []
-named_by (Limit n) = []
-named_by Publish = []
-named_by (Ask lane text) = []
+named_by line = []
 
 -- where a session stands after a line that says this
 abbrev pub after_item : SessionView → Item → SessionView
@@ -256,29 +240,27 @@ spent fault session = record session { stage = at.Spent fault }
 
 -- what the call answers: that the round is closed, and the last one, or that there is more to come
 abbrev pub step_of : List BodyLine → Item → Step
-step_of round Skipped = More
-step_of round Title = More
-step_of round (Langs codes) = More
-step_of round (Layer layer) = More
-step_of round (Body line) = More
 step_of round Join = Ready round
 step_of round End = Last round
+step_of round item = More
 
 -- the line can be added: there are fewer than 16 layers, whose zooms don't fall; and fewer than 4,096 asks
 abbrev pub Fits : SessionView → Item → Type 0
 Fits session (Layer layer) = (length session.head.layers < 16) × (last_zoom session.head.layers ≤ layer.zoom)
 Fits session (Body line) = is_asking line ≡ true → count_by is_asking session.round < 4096
-Fits session Skipped = ⊤
-Fits session Title = ⊤
-Fits session (Langs codes) = ⊤
-Fits session Join = ⊤
-Fits session End = ⊤
+Fits session item = ⊤
 
 -- what each line of the body keeps: the layer of a put is one of the head, and the tiles of its feature have its zoom; the lane of an ask is below 8, and its text is ASCII
 abbrev pub IsLineOf : Head → BodyLine → Type 0
 IsLineOf head (Put layer f) = IsSome (slice_get head.layers layer) × IfSome (slice_get head.layers layer) (λ l. All (λ t. t.z ≡ l.zoom) f.tiles)
 IsLineOf head (Ask lane text) = (lane < 8) × IsAscii text
-IsLineOf head (Drop layer id) = ⊤
-IsLineOf head (Load feed layer) = ⊤
-IsLineOf head (Limit n) = ⊤
-IsLineOf head Publish = ⊤
+IsLineOf head line = ⊤
+
+-- the fault is found before any room is asked for, by a session that isn't spent
+abbrev pub needs_no_room : Why → Bool
+needs_no_room why.Long = true
+needs_no_room why.Utf8 = true
+needs_no_room why.Head = true
+needs_no_room why.Word = true
+needs_no_room why.Form = true
+needs_no_room fault = false

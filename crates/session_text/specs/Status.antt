@@ -46,15 +46,15 @@ why_text Asks = codes "11 Asks"
 why_text NotYet = codes "12 NotYet"
 
 -- the exit status of the process
-abbrev pub number_of : Status → ℕ
-number_of Done = 0
-number_of Usage = 1
-number_of (BadLine line why) = 2
-number_of Unended = 3
-number_of TooMuch = 4
-number_of ReadFault = 5
-number_of WriteFault = 6
-number_of Memory = 7
+abbrev pub exit_number : Status → ℕ
+exit_number Done = 0
+exit_number Usage = 1
+exit_number (BadLine line why) = 2
+exit_number Unended = 3
+exit_number TooMuch = 4
+exit_number ReadFault = 5
+exit_number WriteFault = 6
+exit_number Memory = 7
 
 -- what is told of the status, in one line without its line feed
 abbrev pub status_text : Status → List ℕ

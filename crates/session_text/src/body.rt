@@ -1,6 +1,6 @@
 //! The lines of a session's body.
 
-ghost use Rattle.std.specs.Prelude.{◌≡◌, List, [], ◌∷◌, ◌++◌, ◌==◌, ◌<◌, length, slice_get, Some, OnOk, OnErr};
+ghost use Rattle.std.specs.Prelude.{◌≡◌, List, [], ◌∷◌, ◌++◌, ◌<◌, length, slice_get, Some, OnOk, OnErr};
 ghost use Rattle.session_text.specs.declared.body.BodyLine.{BodyLine};
 
 use feature_reader::feature::Feature;
@@ -65,13 +65,6 @@ impl Round {
         ensures { result ≡ length self.now }
     {
         self.lines.len()
-    }
-
-    /// There is no line.
-    pub fn is_empty(&self) -> bool
-        ensures { result ≡ (length self.now == 0) }
-    {
-        self.lines.is_empty()
     }
 
     /// The line at a place, counted from 0.

@@ -1,11 +1,11 @@
 //! Reads the lines of a session's body.
 
-ghost use Rattle.std.specs.Prelude.{◌≡◌, List, nat_eq, codes, count_by, Ok, Err, IfOk};
+ghost use Rattle.std.specs.Prelude.{◌≡◌, false, List, nat_eq, codes, count_by, Ok, Err, IfOk};
 ghost use Rattle.std.specs.List.{list_any, starts_with};
 ghost use Rattle.geo_text.specs.Words.{words_of};
 ghost use Rattle.geo_base.specs.declared.refusal.Refused.TheVariants as refused;
 ghost use Rattle.geo_query.specs.Query.{asks_language};
-ghost use Rattle.session_text.specs.Session.{put_line, drop_line, limit_line, ask_line, bare_line, is_asking};
+ghost use Rattle.session_text.specs.Session.{put_line, drop_line, limit_line, ask_line, bare_line, is_asking, needs_no_room};
 ghost use Rattle.session_text.specs.declared.body.BodyLine.{BodyLine};
 ghost use Rattle.session_text.specs.declared.why.Why.{Why};
 
@@ -15,10 +15,10 @@ use crate::item::Item;
 use crate::why::Why;
 use feature_reader::feature::FeatureFault;
 use feature_reader::read_feature::feature_of_value;
-use feature_reader::simple::is_simple;
+use feature_reader::simple::is_simple_feature;
 use geo_base::refusal::Refused;
 use geo_layer::head::Head;
-use geo_layer::json::value_of;
+use geo_layer::json::read_json;
 use geo_text::cut::{after_word, ascii, before, first_word, next_word};
 use geo_text::number::number;
 use geo_text::text::Text;
@@ -31,6 +31,7 @@ const MOST_ASKS: u64 = 4096;
 pub fn read_put(alloc: Global, head: &Head, text: &[u8]) -> Result<Item, Refused<Why>>
     ensures ok { IfOk result (λ item. put_line head.now text.now ≡ Ok item) }
     ensures fault { (why : Why) → result ≡ Err (refused.Fault why) → put_line head.now text.now ≡ Err why }
+    ensures memory { result ≡ Err refused.Memory → (why : Why) → put_line head.now text.now ≡ Err why → needs_no_room why ≡ false }
 {
     let fields = next_field(text);
     let Some(place) = number(first_word(fields)) else {
@@ -39,9 +40,9 @@ pub fn read_put(alloc: Global, head: &Head, text: &[u8]) -> Result<Item, Refused
     if ascii(text).is_none() {
         return Err(Refused::Fault(Why::NotYet));
     }
-    let value = value_of(alloc, next_field(fields))?;
+    let value = read_json(alloc, next_field(fields))?;
     if let Some(value) = &value {
-        if !is_simple(value) {
+        if !is_simple_feature(value) {
             return Err(Refused::Fault(Why::NotYet));
         }
     }
@@ -127,6 +128,7 @@ fn asks_language(line: &[u8]) -> bool
 pub fn read_ask(alloc: Global, asks: u64, text: &[u8]) -> Result<Item, Refused<Why>>
     ensures ok { (round : List BodyLine) → count_by is_asking round ≡ asks → IfOk result (λ item. ask_line round text.now ≡ Ok item) }
     ensures fault { (round : List BodyLine) → count_by is_asking round ≡ asks → (why : Why) → result ≡ Err (refused.Fault why) → ask_line round text.now ≡ Err why }
+    ensures memory { result ≡ Err refused.Memory → (round : List BodyLine) → (why : Why) → ask_line round text.now ≡ Err why → needs_no_room why ≡ false }
 {
     let fields = next_field(text);
     let Some(lane) = number(first_word(fields)) else {

@@ -1,19 +1,19 @@
 //! Reads the lines of a session's head.
 
-ghost use Rattle.std.specs.Prelude.{◌≡◌, Ok, Err, IfOk};
+ghost use Rattle.std.specs.Prelude.{◌≡◌, ◌≢◌, false, Ok, Err, IfOk};
 ghost use Rattle.geo_base.specs.declared.refusal.Refused.TheVariants as refused;
-ghost use Rattle.session_text.specs.Session.{SessionView, Fits, title_line, langs_line, layer_line};
+ghost use Rattle.session_text.specs.Session.{SessionView, Fits, title_line, langs_line, layer_line, needs_no_room};
 ghost use Rattle.session_text.specs.declared.why.Why.{Why};
 
 use crate::fields::{are_spaces, next_field};
 use crate::item::Item;
 use crate::why::Why;
 use geo_base::refusal::Refused;
-use geo_layer::json::value_of;
+use geo_layer::json::read_json;
 use geo_layer::langs::read_langs;
 use geo_layer::layer::LayerFault;
 use geo_layer::layers::Layers;
-use geo_layer::read_layer::{is_simple, layer_of_value};
+use geo_layer::read_layer::{is_simple_layer, layer_of_value};
 use geo_text::cut::{after_word, ascii};
 use std::alloc::Global;
 
@@ -21,6 +21,7 @@ use std::alloc::Global;
 pub fn read_title(text: &[u8]) -> Result<Item, Refused<Why>>
     ensures ok { IfOk result (λ item. title_line text.now ≡ Ok item) }
     ensures fault { (why : Why) → result ≡ Err (refused.Fault why) → title_line text.now ≡ Err why }
+    ensures no_memory { result ≢ Err refused.Memory }
 {
     match text.strip_prefix(b"carmen 1") {
         Some(rest) if are_spaces(rest) => Ok(Item::Title),
@@ -32,6 +33,7 @@ pub fn read_title(text: &[u8]) -> Result<Item, Refused<Why>>
 pub fn read_langs_line(alloc: Global, text: &[u8]) -> Result<Item, Refused<Why>>
     ensures ok { IfOk result (λ item. langs_line text.now ≡ Ok item) }
     ensures fault { (why : Why) → result ≡ Err (refused.Fault why) → langs_line text.now ≡ Err why }
+    ensures memory { result ≡ Err refused.Memory → (why : Why) → langs_line text.now ≡ Err why → needs_no_room why ≡ false }
 {
     let Some(_) = ascii(text) else {
         return Err(Refused::Fault(Why::NotYet));
@@ -51,14 +53,15 @@ pub fn read_layer_line(alloc: Global, layers: &Layers, text: &[u8]) -> Result<It
     ensures ok { IfOk result (λ item. layer_line layers.now text.now ≡ Ok item) }
     ensures fits { (session : SessionView) → session.head.layers ≡ layers.now → IfOk result (λ item. Fits session item) }
     ensures fault { (why : Why) → result ≡ Err (refused.Fault why) → layer_line layers.now text.now ≡ Err why }
+    ensures memory { result ≡ Err refused.Memory → (why : Why) → layer_line layers.now text.now ≡ Err why → needs_no_room why ≡ false }
 {
     if ascii(text).is_none() {
         return Err(Refused::Fault(Why::NotYet));
     }
-    let Some(value) = value_of(alloc, next_field(text))? else {
+    let Some(value) = read_json(alloc, next_field(text))? else {
         return Err(Refused::Fault(Why::Layer(LayerFault::Json)));
     };
-    if !is_simple(&value) {
+    if !is_simple_layer(&value) {
         return Err(Refused::Fault(Why::NotYet));
     }
     match layer_of_value(alloc, &value, layers) {

@@ -1,8 +1,8 @@
 //! Laws of the definitions, as the contracts of functions that do nothing.
 
-ghost use Rattle.std.specs.Prelude.{◌≡◌, ℕ, List, [], ◌∷◌, Bool, map, slice_get, codes, Some, Ok};
+ghost use Rattle.std.specs.Prelude.{◌≡◌, ℕ, List, [], ◌∷◌, ◌++◌, Bool, map, slice_get, codes, Some, Ok};
 ghost use Rattle.geo_layer.specs.declared.head.Head.{Head};
-ghost use Rattle.session_text.specs.Generations.{Generation, generation_0, all_generations};
+ghost use Rattle.session_text.specs.Generations.{Generation, generation_0, new_builder, builder_after, all_generations, publications};
 ghost use Rattle.session_text.specs.declared.body.BodyLine.{BodyLine};
 ghost use Rattle.session_text.specs.Reading.{at_bad_line, unended, reading_on};
 ghost use Rattle.session_text.specs.Session.{SessionView, line_at, IsLineOf};
@@ -27,6 +27,12 @@ pub fn worked_readings()
 pub fn generations_are_numbered()
     ensures number { (head : Head) → (lines : List BodyLine) → (k : ℕ) → (g : Generation) → slice_get (all_generations head lines) k ≡ Some g → g.number ≡ k }
     ensures first { (head : Head) → all_generations head [] ≡ generation_0 head ∷ [] }
+{}
+
+/// The generation that stands published behind some lines, which answers an ask there, is the entry of the list of all
+/// generations whose place is the number of publications among them.
+pub fn asks_see_the_last_publication()
+    ensures { (head : Head) → (before later : List BodyLine) → slice_get (all_generations head (before ++ later)) (publications before) ≡ Some (builder_after (new_builder head) before).last }
 {}
 
 /// The generations of some lines, by hand: a publication has the features and the limit of the lines before it.

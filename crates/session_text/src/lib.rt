@@ -9,7 +9,5 @@ pub mod item;
 pub mod laws;
 pub mod session;
 pub mod status;
-#[cfg(test)]
-mod tests;
 pub mod why;
 pub mod write;

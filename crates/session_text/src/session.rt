@@ -1,9 +1,9 @@
 //! A session, line by line.
 
-ghost use Rattle.std.specs.Prelude.{◌≡◌, ◌≢◌, ◌↔◌, ◌==◌, IsTrue, [], ◌∷◌, Ok, Err, IfOk, OnOk, OnErr, MatchOption};
+ghost use Rattle.std.specs.Prelude.{◌≡◌, ◌≢◌, ◌↔◌, ◌==◌, true, false, IsTrue, [], ◌∷◌, Ok, Err, IfOk, OnOk, OnErr, MatchOption};
 ghost use Rattle.std.specs.List.{list_any};
 ghost use Rattle.geo_base.specs.declared.refusal.Refused.TheVariants as refused;
-ghost use Rattle.session_text.specs.Session.{SessionView, start, body_line, head_line, line_at, after_item, step_of, spent, load_line, is_asking, named_by, Fits};
+ghost use Rattle.session_text.specs.Session.{SessionView, start, body_line, head_line, line_at, after_item, step_of, spent, load_line, is_asking, named_by, needs_no_room, Fits};
 ghost use Rattle.session_text.specs.declared.item.Item.{Item};
 ghost use Rattle.session_text.specs.declared.item.Item.TheVariants.{Body};
 ghost use Rattle.session_text.specs.declared.session.Stage.TheVariants as at;
@@ -65,13 +65,13 @@ pub enum Step {
 /// round, the feeds that were named, how many feeds there are, and which lines may ask.
 #[derive(Drop)]
 pub struct Session {
-    stage: Stage,
     head: Head,
     round: Round,
     /// How many lines of the round ask.
     asks: u64,
     named: Vec<u32>,
     feeds: u32,
+    stage: Stage,
     kind: Kind,
     alloc: Global,
 }
@@ -93,7 +93,6 @@ impl Session {
         ensures { result ≡ start feeds kind }
     {
         Session {
-            stage: Stage::BeforeHead,
             head: Head {
                 langs: Langs::new(alloc),
                 layers: Layers::new(alloc),
@@ -102,6 +101,7 @@ impl Session {
             asks: 0,
             named: Vec::new(alloc),
             feeds,
+            stage: Stage::BeforeHead,
             kind,
             alloc,
         }
@@ -123,13 +123,16 @@ impl Session {
 
     /// Takes the next line, without its line feed, and says what it does; or its first fault, with
     /// which the session is spent: it answers that fault to every line from then on. After want of
-    /// memory the session is as before.
+    /// memory the session is as before. The faults `Long`, `Utf8`, `Head`, `Word` and `Form` are found before any room is
+    /// asked for, and so is the fault of a session that is spent.
     ///
     /// No line is taken after the one that ended the session.
     pub fn line(&mut self, bytes: &[u8]) -> Result<Step, Refused<Why>>
         requires { self.old.stage ≢ at.Ended }
         ensures step { IfOk result (λ step. (item : Item) × (line_at self.old bytes.now ≡ Ok item) × (step ≡ step_of self.old.round item) × (self.new ≡ after_item self.old item)) }
         ensures fault { (why : Why) → result ≡ Err (refused.Fault why) → (line_at self.old bytes.now ≡ Err why) × (self.new ≡ spent why self.old) }
+        ensures outright { (why : Why) → needs_no_room why ≡ true → line_at self.old bytes.now ≡ Err why → result ≡ Err (refused.Fault why) }
+        ensures again { (why : Why) → self.old.stage ≡ at.Spent why → result ≡ Err (refused.Fault why) }
         ensures memory { result ≡ Err refused.Memory → self.new ≡ self.old }
     {
         match self.read(bytes) {
@@ -147,6 +150,8 @@ impl Session {
         ensures ok { IfOk result (λ item. line_at self.now bytes.now ≡ Ok item) }
         ensures fits { IfOk result (λ item. Fits self.now item) }
         ensures fault { (why : Why) → result ≡ Err (refused.Fault why) → line_at self.now bytes.now ≡ Err why }
+        ensures memory { result ≡ Err refused.Memory → (why : Why) → line_at self.now bytes.now ≡ Err why → needs_no_room why ≡ false }
+        ensures again { (why : Why) → self.now.stage ≡ at.Spent why → result ≡ Err (refused.Fault why) }
     {
         if let Stage::Spent(why) = self.stage {
             return Err(Refused::Fault(why));
@@ -175,6 +180,7 @@ impl Session {
         ensures ok { IfOk result (λ item. head_line self.now first text.now ≡ Ok item) }
         ensures fits { IfOk result (λ item. Fits self.now item) }
         ensures fault { (why : Why) → result ≡ Err (refused.Fault why) → head_line self.now first text.now ≡ Err why }
+        ensures memory { result ≡ Err refused.Memory → (why : Why) → head_line self.now first text.now ≡ Err why → needs_no_room why ≡ false }
     {
         let word = first_word(text);
         if first && word == b"langs".as_slice() {
@@ -194,6 +200,7 @@ impl Session {
         ensures ok { IfOk result (λ item. body_line self.now text.now ≡ Ok item) }
         ensures fits { IfOk result (λ item. Fits self.now item) }
         ensures fault { (why : Why) → result ≡ Err (refused.Fault why) → body_line self.now text.now ≡ Err why }
+        ensures memory { result ≡ Err refused.Memory → (why : Why) → body_line self.now text.now ≡ Err why → needs_no_room why ≡ false }
     {
         match word_of(first_word(text)) {
             Some(Word::Put) => read_put(self.alloc, &self.head, text),
@@ -297,6 +304,7 @@ impl Session {
 fn told(read: Result<Item, Why>) -> Result<Item, Refused<Why>>
     ensures ok { IfOk result (λ item. read ≡ Ok item) }
     ensures fault { (why : Why) → result ≡ Err (refused.Fault why) → read ≡ Err why }
+    ensures no_memory { result ≢ Err refused.Memory }
 {
     match read {
         Ok(item) => Ok(item),

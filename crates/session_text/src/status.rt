@@ -1,7 +1,7 @@
 //! How a session ends.
 
-ghost use Rattle.std.specs.Prelude.{◌≡◌};
-ghost use Rattle.session_text.specs.Status.{number_of, status_text, why_text};
+ghost use Rattle.std.specs.Prelude.{◌≡◌, ◌↔◌, IsTrue};
+ghost use Rattle.session_text.specs.Status.{exit_number, status_text, why_text};
 ghost use Rattle.session_text.specs.declared.status.Status.TheVariants.{BadLine};
 ghost use Rattle.session_text.specs.declared.why.Why.TheVariants.{Layer, Feature};
 
@@ -33,10 +33,19 @@ pub enum Status {
 }
 
 impl Status {
+    /// Whether the two are the same.
+    pub fn is(&self, other: &Status) -> bool
+        ensures { IsTrue result ↔ (self.now ≡ other.now) }
+    {
+        self == other
+    }
+}
+
+impl Status {
     /// The exit status of the process: 0 for `Done`, 1 for `Usage`, 2 for `BadLine`, 3 for `Unended`,
     /// 4 for `TooMuch`, 5 for `ReadFault`, 6 for `WriteFault` and 7 for `Memory`.
     pub fn number(&self) -> u8
-        ensures { result ≡ number_of self.now }
+        ensures { result ≡ exit_number self.now }
     {
         match self {
             Status::Done => 0,
@@ -78,12 +87,12 @@ fn bad_line(line: u64, why: Why) -> ArrayString<128>
     text.push_str("carmen: line ");
     text.push_str(buffer.format(line));
     text.push_str(": ");
-    text.push_str(name_of(why));
+    text.push_str(why_text(why));
     text
 }
 
 /// The number and the name of a fault, and of the fault in it.
-fn name_of(why: Why) -> &'static str
+fn why_text(why: Why) -> &'static str
     ensures { result.now ≡ why_text why }
 {
     match why {
@@ -93,17 +102,17 @@ fn name_of(why: Why) -> &'static str
         Why::Word => "4 Word",
         Why::Form => "5 Form",
         Why::Lang => "6 Lang",
-        Why::Layer(fault) => layer_name_of(fault),
+        Why::Layer(fault) => layer_why_text(fault),
         Why::Number => "8 Number",
         Why::Feed => "9 Feed",
-        Why::Feature(fault) => feature_name_of(fault),
+        Why::Feature(fault) => feature_why_text(fault),
         Why::Asks => "11 Asks",
         Why::NotYet => "12 NotYet",
     }
 }
 
 /// The number and the name of the fault of a layer's line.
-fn layer_name_of(fault: LayerFault) -> &'static str
+fn layer_why_text(fault: LayerFault) -> &'static str
     ensures { result.now ≡ why_text (Layer fault) }
 {
     match fault {
@@ -119,7 +128,7 @@ fn layer_name_of(fault: LayerFault) -> &'static str
 }
 
 /// The number and the name of the fault of a put.
-fn feature_name_of(fault: FeatureFault) -> &'static str
+fn feature_why_text(fault: FeatureFault) -> &'static str
     ensures { result.now ≡ why_text (Feature fault) }
 {
     match fault {
@@ -130,31 +139,5 @@ fn feature_name_of(fault: FeatureFault) -> &'static str
         FeatureFault::Zoom => "10 Feature 5 Zoom",
         FeatureFault::Score => "10 Feature 6 Score",
         FeatureFault::Relev => "10 Feature 7 Relev",
-    }
-}
-
-#[cfg(test)]
-mod tests {
-    use super::*;
-
-    #[test]
-    fn each_status_has_its_number_and_its_text(rt: HostRuntime) {
-        let bad_line = Status::BadLine {
-            line: 18_446_744_073_709_551_615,
-            why: Why::NotYet,
-        };
-        for (status, number, text) in [
-            (Status::Done, 0, ""),
-            (Status::Usage, 1, "carmen: usage"),
-            (bad_line, 2, "carmen: line 18446744073709551615: 12 NotYet"),
-            (Status::Unended, 3, "carmen: no end line"),
-            (Status::TooMuch, 4, "carmen: too much input"),
-            (Status::ReadFault, 5, "carmen: read fault"),
-            (Status::WriteFault, 6, "carmen: write fault"),
-            (Status::Memory, 7, "carmen: out of memory"),
-        ] {
-            assert_eq!(rt; status.number(), number);
-            assert_eq!(rt; status_text(&status).as_str(), text);
-        }
     }
 }

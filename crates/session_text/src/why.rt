@@ -1,5 +1,7 @@
 //! Why a line of a session is refused.
 
+ghost use Rattle.std.specs.Prelude.{◌≡◌, ◌↔◌, IsTrue};
+
 use feature_reader::feature::FeatureFault;
 use geo_layer::layer::LayerFault;
 
@@ -31,4 +33,13 @@ pub enum Why {
     /// It asks for what this program can't do yet: a text that isn't ASCII, a language, a relevance, replacements of
     /// tokens, a scale of scores.
     NotYet,
+}
+
+impl Why {
+    /// Whether the two are the same.
+    pub fn is(&self, other: &Why) -> bool
+        ensures { IsTrue result ↔ (self.now ≡ other.now) }
+    {
+        self == other
+    }
 }

@@ -1,6 +1,6 @@
-//! The text of each answer. Each call appends to what stands in `out`; after want of memory that is still the front.
+//! The text of each answer. Each public call appends to what stands in `out`; after want of memory that is as it was.
 
-ghost use Rattle.std.specs.Prelude.{◌≡◌, ◌≤◌, ◌*◌, ◌++◌, length, decimal, flat_map, sum_by, OnOk, OnErr};
+ghost use Rattle.std.specs.Prelude.{◌≡◌, ◌≤◌, ◌*◌, ◌++◌, length, decimal, flat_map, sum_by, take, OnOk, OnErr};
 ghost use Rattle.std.specs.Io.{StartsWith};
 ghost use Rattle.geo_base.specs.Order.{target_score};
 ghost use Rattle.session_text.specs.Reply.{tile_text, link_text, context_text, fault_text, answer_text, reply_text, taken_word, put_text, published_text, drop_text, limit_text};
@@ -129,7 +129,7 @@ fn write_contexts(out: &mut Vec<u8>, tokens: u8, contexts: &Contexts) -> Result<
 }
 
 /// The number and the name of a fault.
-fn name_of(fault: QueryFault) -> &'static [u8]
+fn fault_text(fault: QueryFault) -> &'static [u8]
     ensures { result.now ≡ fault_text fault }
 {
     match fault {
@@ -146,7 +146,7 @@ fn write_unreadable(out: &mut Vec<u8>, fault: QueryFault) -> Result<(), Memory>
     ensures ok { OnOk result (out.new.items ≡ out.old.items ++ answer_text (Unreadable fault)) }
     ensures err { OnErr result (StartsWith out.new.items out.old.items) }
 {
-    push_both(out, b"unreadable ", name_of(fault))?;
+    push_both(out, b"unreadable ", fault_text(fault))?;
     push(out, b"\n")?;
     Ok(())
 }
@@ -187,7 +187,7 @@ fn write_answer(out: &mut Vec<u8>, r: &Reply) -> Result<(), Memory>
 }
 
 /// Appends the text of an ask: its lane, its place among the asks of its lane, counted from 0, and the reply.
-pub fn write_reply(out: &mut Vec<u8>, lane: u8, place: u64, r: &Reply) -> Result<(), Memory>
+fn push_reply(out: &mut Vec<u8>, lane: u8, place: u64, r: &Reply) -> Result<(), Memory>
     ensures ok { OnOk result (out.new.items ≡ out.old.items ++ reply_text lane place r.now) }
     ensures err { OnErr result (StartsWith out.new.items out.old.items) }
 {
@@ -199,7 +199,7 @@ pub fn write_reply(out: &mut Vec<u8>, lane: u8, place: u64, r: &Reply) -> Result
 }
 
 /// What a put answers, in a word.
-fn word_of(answer: &Result<Taken, PutFault>) -> &'static [u8]
+fn taken_word(answer: &Result<Taken, PutFault>) -> &'static [u8]
     ensures { result.now ≡ taken_word answer.now }
 {
     match answer {
@@ -211,7 +211,7 @@ fn word_of(answer: &Result<Taken, PutFault>) -> &'static [u8]
 }
 
 /// Appends the text of a put: its layer, the id of its feature, and what it answers.
-pub fn write_put(
+fn push_put(
     out: &mut Vec<u8>,
     layer: u8,
     id: u32,
@@ -222,13 +222,13 @@ pub fn write_put(
 {
     push_number(out, b"put ", u64::from(layer))?;
     push_number(out, b" ", u64::from(id))?;
-    push_both(out, b" ", word_of(answer))?;
+    push_both(out, b" ", taken_word(answer))?;
     push(out, b"\n")?;
     Ok(())
 }
 
 /// Appends the text of a drop: its layer, the id, and whether the feature stood there.
-pub fn write_drop(out: &mut Vec<u8>, layer: u8, id: u32, gone: bool) -> Result<(), Memory>
+fn push_drop(out: &mut Vec<u8>, layer: u8, id: u32, gone: bool) -> Result<(), Memory>
     ensures ok { OnOk result (out.new.items ≡ out.old.items ++ drop_text layer id gone) }
     ensures err { OnErr result (StartsWith out.new.items out.old.items) }
 {
@@ -239,7 +239,7 @@ pub fn write_drop(out: &mut Vec<u8>, layer: u8, id: u32, gone: bool) -> Result<(
 }
 
 /// Appends the text of a limit.
-pub fn write_limit(out: &mut Vec<u8>, n: u64) -> Result<(), Memory>
+fn push_limit(out: &mut Vec<u8>, n: u64) -> Result<(), Memory>
     ensures ok { OnOk result (out.new.items ≡ out.old.items ++ limit_text n) }
     ensures err { OnErr result (StartsWith out.new.items out.old.items) }
 {
@@ -249,7 +249,7 @@ pub fn write_limit(out: &mut Vec<u8>, n: u64) -> Result<(), Memory>
 }
 
 /// Appends the text of a publication, which is its number.
-pub fn write_published(out: &mut Vec<u8>, k: u32) -> Result<(), Memory>
+fn push_published(out: &mut Vec<u8>, k: u32) -> Result<(), Memory>
     ensures ok { OnOk result (out.new.items ≡ out.old.items ++ published_text k) }
     ensures err { OnErr result (StartsWith out.new.items out.old.items) }
 {
@@ -258,75 +258,69 @@ pub fn write_published(out: &mut Vec<u8>, k: u32) -> Result<(), Memory>
     Ok(())
 }
 
-#[cfg(test)]
-mod tests {
-    use super::*;
-    use geo_base::answer::Answer;
-    use geo_base::context::Context;
-    use std::alloc::Global;
-
-    /// The text of an answer with two contexts, after another text.
-    fn two_contexts(alloc: Global) -> Result<Vec<u8>, Memory> {
-        let mut city = Link::default();
-        let mut street = Link::default();
-        if let (Some(wide), Some(deep)) = (Tile::new(6, 32, 32), Tile::new(16, 65_535, 0)) {
-            city = Link {
-                layer: 0,
-                from: 0,
-                to: 2,
-                id: 7,
-                tile: wide,
-                value: 20_000,
-                score: 9,
-            };
-            street = Link {
-                layer: 15,
-                from: 1,
-                to: 2,
-                id: 67_108_863,
-                tile: deep,
-                value: 9600,
-                score: 0,
-            };
-        }
-        let mut contexts = Contexts::new();
-        contexts.push(Context::new(city));
-        contexts.push(Context::new(street));
-        let reply = Reply::Found {
-            generation: 4,
-            answer: Answer {
-                tokens: 2,
-                contexts,
-            },
-        };
-        let mut out = Vec::new(alloc);
-        write_put(&mut out, 0, 7, &Ok(Taken::New))?;
-        write_put(&mut out, 1, 8, &Ok(Taken::Changed))?;
-        write_put(&mut out, 2, 67_108_863, &Err(PutFault::TooManyFeatures))?;
-        write_put(&mut out, 15, 0, &Err(PutFault::TooManyRows))?;
-        write_drop(&mut out, 0, 7, true)?;
-        write_drop(&mut out, 15, 67_108_863, false)?;
-        write_limit(&mut out, 8_388_608)?;
-        write_published(&mut out, 4)?;
-        write_reply(&mut out, 3, 5, &reply)?;
-        write_reply(&mut out, 3, 6, &Reply::Unreadable(QueryFault::Empty))?;
-        let grids = Reply::Grids {
-            generation: 4,
-            total: 11,
-            limit: 10,
-        };
-        write_reply(&mut out, 3, 7, &grids)?;
-        write_reply(&mut out, 3, 8, &Reply::Memory)?;
-        Ok(out)
+/// After want of memory cuts the bytes back to the first `start`, which stood there before.
+fn undo_failed(out: &mut Vec<u8>, start: usize, written: Result<(), Memory>) -> Result<(), Memory>
+    ensures answer { result ≡ written }
+    ensures ok { OnOk written (out.new.items ≡ out.old.items) }
+    ensures err { OnErr written (out.new.items ≡ take start out.old.items) }
+{
+    if written.is_err() {
+        out.truncate(start);
     }
+    written
+}
 
-    #[test]
-    fn an_answer_has_a_line_for_each_context(rt: HostRuntime) {
-        let text =
-            "put 0 7 new\nput 1 8 changed\nput 2 67108863 features\nput 15 0 rows\ndrop 0 7 gone\ndrop 15 67108863 none\nlimit 8388608\npublished 4\nask 3 5 gen 4 found 2\ncontext 20000/20000 score 9 0:7@6/32/32[0,2)=20000\ncontext 9600/20000 score 0 15:67108863@16/65535/0[1,2)=9600\nask 3 6 unreadable 4 Empty\nask 3 7 gen 4 grids 11 10\nask 3 8 memory\n";
-        match two_contexts(rt.alloc()) {
-            Ok(out) => assert!(rt; out.as_slice() == text.as_bytes()),
-            Err(_) => panic!(rt; "out of memory"),
-        }
-    }
+/// Appends the text of an ask: its lane, its place among the asks of its lane, counted from 0, and the reply.
+pub fn write_reply(out: &mut Vec<u8>, lane: u8, place: u64, r: &Reply) -> Result<(), Memory>
+    ensures ok { OnOk result (out.new.items ≡ out.old.items ++ reply_text lane place r.now) }
+    ensures err { OnErr result (out.new.items ≡ out.old.items) }
+{
+    let start = out.len();
+    let written = push_reply(out, lane, place, r);
+    undo_failed(out, start, written)
+}
+
+/// Appends the text of a put: its layer, the id of its feature, and what it answers.
+pub fn write_put(
+    out: &mut Vec<u8>,
+    layer: u8,
+    id: u32,
+    answer: &Result<Taken, PutFault>,
+) -> Result<(), Memory>
+    ensures ok { OnOk result (out.new.items ≡ out.old.items ++ put_text layer id answer.now) }
+    ensures err { OnErr result (out.new.items ≡ out.old.items) }
+{
+    let start = out.len();
+    let written = push_put(out, layer, id, answer);
+    undo_failed(out, start, written)
+}
+
+/// Appends the text of a drop: its layer, the id, and whether the feature stood there.
+pub fn write_drop(out: &mut Vec<u8>, layer: u8, id: u32, gone: bool) -> Result<(), Memory>
+    ensures ok { OnOk result (out.new.items ≡ out.old.items ++ drop_text layer id gone) }
+    ensures err { OnErr result (out.new.items ≡ out.old.items) }
+{
+    let start = out.len();
+    let written = push_drop(out, layer, id, gone);
+    undo_failed(out, start, written)
+}
+
+/// Appends the text of a limit.
+pub fn write_limit(out: &mut Vec<u8>, n: u64) -> Result<(), Memory>
+    ensures ok { OnOk result (out.new.items ≡ out.old.items ++ limit_text n) }
+    ensures err { OnErr result (out.new.items ≡ out.old.items) }
+{
+    let start = out.len();
+    let written = push_limit(out, n);
+    undo_failed(out, start, written)
+}
+
+/// Appends the text of a publication, which is its number.
+pub fn write_published(out: &mut Vec<u8>, k: u32) -> Result<(), Memory>
+    ensures ok { OnOk result (out.new.items ≡ out.old.items ++ published_text k) }
+    ensures err { OnErr result (out.new.items ≡ out.old.items) }
+{
+    let start = out.len();
+    let written = push_published(out, k);
+    undo_failed(out, start, written)
 }

@@ -5,7 +5,7 @@ use Rattle.std.specs.Io.KnownBytes.{Consumes, Appends}
 use Rattle.std.proofs.KnownBytes.{Consumes-trans, Consumes-kept, Appends-nil, Appends-trans, Consumes-nil}
 use Rattle.session_text.specs.declared.status.Status.TheVariants as status
 use Rattle.query_server.specs.Promise.{byte_limit}
-use Rattle.query_server.proofs.Outcome.{open_yet, stopped, at_its_end, failed, full, decided_within, decided_at_end, decided_full, not_usage, not_read_fault, took_none, took_some, count_block, count_some, rose_earlier}
+use Rattle.query_server.proofs.Outcome.{prompt, prompt_here, stopped, at_its_end, failed, full, decided_within, decided_at_end, decided_full, not_usage, not_read_fault, took_none, took_some, count_block, count_some, rose_earlier}
 use Rattle.query_server.proofs.run.run_plain.Goals as goal
 
 pub loop-taken-init : goal.loop-taken-init
@@ -16,6 +16,8 @@ loop-taken-init g c = record {
   within = search (rules, arith);
   read_later = search rules;
   write_later = search rules;
+  read_kept = refl;
+  write_kept = refl;
 }
 
 pub returns-in_default-clause-session : goal.returns-in_default-clause-session
@@ -34,7 +36,7 @@ returns-then-n-eq0-clause-session g c =
     let zero : c.in-Ok.n ≡ 0 = search (rules, arith) in
     let room : 0 < length c.read.new.buf = search (rules, arith) in
     let none = subst (λ n. Consumes (g.S.Source.left c.loop-taken.source) (g.S.Source.left c.read.new.self) (take n c.read.new.buf)) zero c.in-Ok.ensures.bytes.0 in
-    at_its_end _ _ _ _ _ _ m.0 (m.1 ++ says.0) c.end.result (took_none _ _ _ m.0 m.2 none) (Appends-trans _ _ _ _ _ m.3 says.1) short (c.in-Ok.ensures.bytes.1 zero room) says.2 (m.0, [], sym (append-nil m.0), omega arith, (open_yet c.args.kind m.0 m.1 c.loop-taken.running m.5 inv.fits).0)
+    at_its_end _ _ _ _ _ _ m.0 (m.1 ++ says.0) c.end.result (took_none _ _ _ m.0 m.2 none) (Appends-trans _ _ _ _ _ m.3 says.1) short (c.in-Ok.ensures.bytes.1 zero room) says.2 (prompt_here c.args.kind m.0 m.1 c.loop-taken.running m.5 inv.fits says.0)
 
 pub returns-then-n-eq0-clause-decided : goal.returns-then-n-eq0-clause-decided
 returns-then-n-eq0-clause-decided g c =
@@ -61,7 +63,7 @@ returns-in-Some-clause-session g c =
     let small : length c.read.new.buf ≤ 65536 = search (rules, arith) in
     let within : length (m.0 ++ take c.in-Ok.n (c.read.new.buf ++ rest)) ≤ byte_limit = omega (arith, count, m.4, inv.within, few, room) in
     stopped _ _ _ _ _ _ (m.0 ++ take c.in-Ok.n (c.read.new.buf ++ rest)) (m.1 ++ goes.0) c.in-Some.status (took_some _ _ _ m.0 c.read.new.buf rest c.in-Ok.n few m.2 c.in-Ok.ensures.bytes.0) (Appends-trans _ _ _ _ _ m.3 goes.1) within goes.2
-    (m.0, take c.in-Ok.n (c.read.new.buf ++ rest), refl, omega (arith, blk, few, small), (open_yet c.args.kind m.0 m.1 c.loop-taken.running m.5 inv.fits).0)
+    (prompt c.args.kind m.0 m.1 c.loop-taken.running m.5 inv.fits (take c.in-Ok.n (c.read.new.buf ++ rest)) goes.0 (omega (arith, blk, few, small)))
 
 pub returns-in-Some-clause-usage : goal.returns-in-Some-clause-usage
 returns-in-Some-clause-usage g c =
@@ -108,6 +110,8 @@ loop-taken-preserved g c =
       within = omega (arith, few, room, inv.within);
       read_later = search (rules, arith);
       write_later = search (rules, arith);
+      read_kept = c.in-Ok.ensures.kept ∙ inv.read_kept;
+      write_kept = c.in_default-take.ensures.kept (λ e. cc e) ∙ inv.write_kept;
     }
 
 pub returns-clause-session : goal.returns-clause-session
@@ -123,3 +127,15 @@ returns-clause-decided g c =
     let m = inv.moved in
     let count : length m.0 ≡ byte_limit = omega (arith, m.4, inv.within, c.loop-taken-test.false) in
     λ no_read no_write. decided_full _ _ _ _ m.0 m.1 c.loop-taken.running m.2 count m.5 inv.fits
+
+pub returns-in_default-clause-kept : goal.returns-in_default-clause-kept
+returns-in_default-clause-kept g c = (λ no. absurd (no refl), λ no. c.loop-taken.invariant.write_kept)
+
+pub returns-then-n-eq0-clause-kept : goal.returns-then-n-eq0-clause-kept
+returns-then-n-eq0-clause-kept g c = (λ no. c.in-Ok.ensures.kept ∙ c.loop-taken.invariant.read_kept, λ no. c.end.ensures.kept no ∙ c.loop-taken.invariant.write_kept)
+
+pub returns-in-Some-clause-kept : goal.returns-in-Some-clause-kept
+returns-in-Some-clause-kept g c = (λ no. c.in-Ok.ensures.kept ∙ c.loop-taken.invariant.read_kept, λ no. c.in-Some.ensures.kept (λ e. no (cc e)) ∙ c.loop-taken.invariant.write_kept)
+
+pub returns-clause-kept : goal.returns-clause-kept
+returns-clause-kept g c = (λ no. c.loop-taken.invariant.read_kept, λ no. c.loop-taken.invariant.write_kept)

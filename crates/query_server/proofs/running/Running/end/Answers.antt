@@ -4,7 +4,7 @@ use Rattle.std.proofs.KnownBytes.{Appends-nil}
 use Rattle.session_text.specs.Lines.{line_text}
 use Rattle.session_text.specs.Reading.{reading}
 use Rattle.session_text.specs.declared.status.Status.{Status}
-use Rattle.query_server.specs.Promise.{Says}
+use Rattle.query_server.specs.Promise.{StatusMeans}
 use Rattle.query_server.proofs.Moves.{end_is_missing, ends_there}
 use Rattle.query_server.proofs.running.Running.end.Goals as goal
 
@@ -20,6 +20,6 @@ returns-clause-says g c kind bytes written here =
       put,
       puts,
       λ limit count.
-          subst (λ (s : Status). Says limit true count s (reading 0 kind true bytes) (written ++ put)) (sym c.unwrap_or.ensures)
+          subst (λ (s : Status). StatusMeans limit true count s (reading 0 kind true bytes) (written ++ put)) (sym c.unwrap_or.ensures)
           (ends_there kind bytes written put c.args.self.now c.line.new.self c.line.result c.requires.fits is c.line.ensures.begun here goes limit count),
     )

@@ -1,5 +1,5 @@
 use Rattle.std.proofs.Common.{◌≡◌, ◌≤◌, ◌+◌, ◌++◌, List, ℕ, length}
-use Rattle.query_server.specs.Running.{IsFit}
+use Rattle.query_server.specs.Running.{IsUnderWay}
 use Rattle.query_server.proofs.Moves.{HasTaken}
 use Rattle.query_server.proofs.running.Running.take.Given as goal
 
@@ -7,9 +7,10 @@ use Rattle.query_server.proofs.running.Running.take.Given as goal
 abbrev pub invariant-loop-part : goal.invariant-loop-part
 invariant-loop-part g l = record {
   taken : (done : List ℕ) × (l.block ≡ done ++ l.rest) × HasTaken (g.K.Sink.contents l.fn.sink) (g.K.Sink.contents l.sink) l.fn.self l.self done;
-  fits : IsFit l.self;
+  fits : IsUnderWay l.self;
   number : l.self.reader.line + length l.rest ≤ l.fn.self.reader.line + length l.block;
   later : g.K.Sink.faults l.fn.sink ≤ g.K.Sink.faults l.sink;
+  kept : g.K.Sink.faults l.sink ≡ g.K.Sink.faults l.fn.sink;
 }
 
 abbrev pub decreases-loop-part : goal.decreases-loop-part
