@@ -1,6 +1,6 @@
 //! The top call: the words of a command line, a source and a sink.
 
-ghost use Rattle.std.specs.Prelude.{◌≡◌, ◌↔◌, ◌≤◌, map, string_bytes, true, false};
+ghost use Rattle.std.specs.Prelude.{◌≡◌, ◌≢◌, ◌↔◌, ◌≤◌, map, string_bytes, true, false};
 ghost use Rattle.std.specs.Io.KnownBytes.{Keeps};
 ghost use Rattle.geo_outside.specs.Device.{Rose};
 ghost use Rattle.query_server.specs.Promise.{byte_limit, EndsAs, IsDecided};
@@ -35,7 +35,8 @@ fn is_plain(words: &[String]) -> bool
 ///   written, and not all of it.
 /// - `Memory`: room was asked for and refused, which no clause says; a front of such a text was written.
 ///
-/// Where neither count of faults rose, the words and the bytes of the source alone decide the status, but for `Memory`.
+/// No fault is passed over: any other status than `ReadFault` leaves the source's count of faults, and any other than
+/// `WriteFault` the sink's. Where neither count of faults rose, the words and the bytes of the source alone decide the status, but for `Memory`.
 pub fn carmen<R: AllocGlobal, S: Source, K: Sink>(
     rt: &R,
     words: &[String],
@@ -52,6 +53,7 @@ pub fn carmen<R: AllocGlobal, S: Source, K: Sink>(
         → ¬ (Rose (S.faults source.old) (S.faults source.new)) → ¬ (Rose (K.faults sink.old) (K.faults sink.new))
         → IsDecided byte_limit Asks (S.left source.old) result }
     ensures later { (S.faults source.old ≤ S.faults source.new) × (K.faults sink.old ≤ K.faults sink.new) }
+    ensures kept { (result ≢ Status.ReadFault → S.faults source.new ≡ S.faults source.old) × (result ≢ Status.WriteFault → K.faults sink.new ≡ K.faults sink.old) }
 {
     if !is_plain(words) {
         return Status::Usage;
