@@ -1,0 +1,5 @@
+use Rattle.plain_answer.specs.Answering.{IsOfHead}
+use Rattle.call_tests.proofs.answers.one_each.Given as goal
+
+abbrev pub invariant-loop-n : goal.invariant-loop-n
+invariant-loop-n g l = IsOfHead l.head l.table

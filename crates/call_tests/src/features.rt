@@ -1,0 +1,246 @@
+//! Features and their tables.
+
+ghost use Rattle.std.specs.Prelude.{◌≡◌, ◌<◌, true};
+ghost use Rattle.feature_reader.specs.FeatureView.{zoom_of};
+
+use feature_reader::feature::Feature;
+use feature_reader::read_feature::read_feature;
+use feature_reader::simple::is_simple_feature;
+use feature_reader::table::FeatureTable;
+use feature_reader::taker::{PutFault, Taken, Taker};
+use geo_base::refusal::Refused;
+use geo_layer::json::read_json;
+use geo_layer::langs::Langs;
+use geo_layer::layer::Layer;
+use geo_text::text::Text;
+use session_text::status::{Status, status_text};
+use session_text::why::Why;
+use session_text::write::write_put;
+use std::alloc::Global;
+use std::process::Abort;
+
+/// The layer `place`, of zoom 6.
+pub fn place(rt: &impl Abort, alloc: Global) -> Layer {
+    Layer::new(alloc, Text::of(alloc, "place").expect(rt, "memory"), 6)
+}
+
+/// The feature of a layer that a simple text stands for, or its fault as that of line 1.
+pub fn feature_of(
+    rt: &impl Abort,
+    alloc: Global,
+    layer: &Layer,
+    text: &str,
+) -> Result<Feature, Status> {
+    if let Some(value) = read_json(alloc, text.as_bytes()).expect(rt, "memory") {
+        assert!(rt; is_simple_feature(&value));
+    }
+    match read_feature(alloc, layer, &Langs::new(alloc), text.as_bytes()) {
+        Ok(feature) => Ok(feature.copy().expect(rt, "memory")),
+        Err(Refused::Fault(fault)) => Err(Status::BadLine {
+            line: 1,
+            why: Why::Feature(fault),
+        }),
+        Err(Refused::Memory) => panic!(rt; "want of memory"),
+    }
+}
+
+/// The parts of a feature.
+fn told(rt: &impl Abort, alloc: Global, feature: &Feature) -> String {
+    let (id, score) = (feature.id(), feature.score());
+    let mut out = format!(in alloc; "{id} {score}:").expect(rt, "memory");
+    for phrase in feature.phrases().as_slice() {
+        write!(out, " {} {};", phrase.text.as_str(), phrase.relev).expect(rt, "memory");
+    }
+    for tile in feature.tiles().as_slice() {
+        write!(out, " {}/{}/{}", tile.z, tile.x, tile.y).expect(rt, "memory");
+    }
+    out
+}
+
+/// Texts, and what is told of them in a layer of zoom 6.
+const TEXTS: [(&str, &str); 10] = [
+    (
+        "{\"id\":7,\"properties\":{\"carmen:score\":9,\"carmen:text\":\"New York,NYC,,nyc\",\"carmen:zxy\":[\"6/33/32\",\"6/32/32\",\"6/33/32\"]}}",
+        "7 9: new york 100; nyc 80; 6/32/32 6/33/32",
+    ),
+    (
+        "{\"id\":67108863,\"properties\":{\"carmen:text\":\"1 2 3 4 5 6 7 8 9 10 11 12 13 14 15 16 17 18 19 20 21,B\",\"carmen:zxy\":[\"6/63/63\"],\"carmen:score\":-1}}",
+        "67108863 0: b 100; 6/63/63",
+    ),
+    ("{\"id\":1", "carmen: line 1: 10 Feature 1 Json"),
+    ("{\"properties\":{}}", "carmen: line 1: 10 Feature 2 Id"),
+    (
+        "{\"id\":67108863,\"properties\":{}}",
+        "carmen: line 1: 10 Feature 3 Text",
+    ),
+    (
+        "{\"id\":1,\"properties\":{\"carmen:text\":\"a\",\"carmen:zxy\":[]}}",
+        "carmen: line 1: 10 Feature 4 Zxy",
+    ),
+    (
+        "{\"id\":1,\"properties\":{\"carmen:text\":\"a\",\"carmen:zxy\":[\"7/0/0\",\"6/64/0\"]}}",
+        "carmen: line 1: 10 Feature 4 Zxy",
+    ),
+    (
+        "{\"id\":1,\"properties\":{\"carmen:text\":\"a\",\"carmen:zxy\":[\"6/0/0\",\"7/0/0\"]}}",
+        "carmen: line 1: 10 Feature 5 Zoom",
+    ),
+    (
+        "{\"id\":1,\"properties\":{\"carmen:text\":\"a\",\"carmen:zxy\":[\"6/0/0\"],\"carmen:score\":1.5}}",
+        "carmen: line 1: 10 Feature 6 Score",
+    ),
+    (
+        "{\"id\":1,\"properties\":{\"carmen:text\":\"a\",\"carmen:zxy\":[\"6/0/0\"],\"carmen:score\":18446744073709551615}}",
+        "1 15: a 100; 6/0/0",
+    ),
+];
+
+/// The parts of the feature that a text stands for in the layer `place`, or its fault as that of line 1.
+fn told_of(rt: &impl Abort, alloc: Global, text: &str) -> Text {
+    match feature_of(rt, alloc, &place(rt, alloc), text) {
+        Ok(feature) => Text::from_string(told(rt, alloc, &feature)),
+        Err(status) => Text::of(alloc, status_text(&status).as_str()).expect(rt, "memory"),
+    }
+}
+
+#[test]
+fn texts_stand_for_features_or_have_faults(rt: HostRuntime) {
+    let alloc = rt.alloc();
+    for (text, wanted) in TEXTS {
+        assert!(rt; told_of(&rt, alloc, text).as_str() == wanted, "{text}");
+    }
+}
+
+/// The text of a feature with so many phrases and tiles, which are listed from the last to the first.
+fn large_text(rt: &impl Abort, alloc: Global, id: u32, phrases: u32, tiles: u32) -> String {
+    let mut text = String::new(alloc);
+    write!(text, "{{\"id\":{id},\"properties\":{{\"carmen:text\":\"").expect(rt, "memory");
+    for n in 0..phrases {
+        write!(text, "part {n},").expect(rt, "memory");
+    }
+    write!(text, "\",\"carmen:zxy\":[").expect(rt, "memory");
+    for n in (1..tiles).rev() {
+        write!(text, "\"6/{}/{}\",", n / 64, n % 64).expect(rt, "memory");
+    }
+    write!(text, "\"6/0/0\"]}}}}").expect(rt, "memory");
+    text
+}
+
+/// That feature in the layer `place`.
+fn large(rt: &impl Abort, alloc: Global, id: u32, phrases: u32, tiles: u32) -> Feature {
+    let text = large_text(rt, alloc, id, phrases, tiles);
+    match feature_of(rt, alloc, &place(rt, alloc), text.as_str()) {
+        Ok(feature) => feature,
+        Err(_) => panic!(rt; "no feature"),
+    }
+}
+
+#[test]
+fn a_feature_has_thousands_of_phrases_and_tiles(rt: HostRuntime) {
+    let alloc = rt.alloc();
+    let feature = large(&rt, alloc, 1, 5000, 4096);
+    let mut wanted = format!(in alloc; "1 0: part 0 100;").expect(&rt, "memory");
+    for n in 1..5000u32 {
+        write!(wanted, " part {n} 80;").expect(&rt, "memory");
+    }
+    for n in 0..4096u32 {
+        write!(wanted, " 6/{}/{}", n / 64, n % 64).expect(&rt, "memory");
+    }
+    assert!(rt; told(&rt, alloc, &feature).as_str() == wanted.as_str());
+}
+
+/// Takes a feature into a layer.
+fn taken<T: Taker>(rt: &impl Abort, taker: &mut T, layer: u8, f: Feature) -> Result<Taken, PutFault>
+    requires { T.takes taker.old layer (zoom_of f) ≡ true }
+{
+    match taker.take(layer, f) {
+        Ok(taken) => Ok(taken),
+        Err(Refused::Fault(fault)) => Err(fault),
+        Err(Refused::Memory) => panic!(rt; "want of memory"),
+    }
+}
+
+/// Puts a feature into a layer of a table, and appends what that answers.
+fn put(rt: &impl Abort, table: &mut FeatureTable, layer: u8, f: Feature, out: &mut Vec<u8>)
+    requires { layer < 16 }
+{
+    let id = f.id();
+    let answer = taken(rt, table, layer, f);
+    write_put(out, layer, id, &answer).expect(rt, "memory");
+}
+
+/// The id, the phrases and the tiles of features that are put.
+const PUTS: [(u32, u32, u32); 9] = [
+    (1, 2049, 4096),
+    (1, 2048, 4096),
+    (2, 1, 1),
+    (1, 2049, 4096),
+    (1, 2048, 4095),
+    (2, 1, 2049),
+    (2, 1, 2048),
+    (3, 1, 1),
+    (3, 0, 1),
+];
+
+/// What the puts are answered with.
+const PUT_ANSWERS: &str = "\
+put 0 1 rows
+put 0 1 new
+put 0 2 rows
+put 0 1 rows
+put 0 1 changed
+put 0 2 rows
+put 0 2 new
+put 0 3 rows
+put 0 3 new
+";
+
+#[test]
+fn a_table_has_a_limit_of_rows(rt: HostRuntime) {
+    let alloc = rt.alloc();
+    let mut table = FeatureTable::new(alloc);
+    let mut out = Vec::new(alloc);
+    for (id, phrases, tiles) in PUTS {
+        let feature = large(&rt, alloc, id, phrases, tiles);
+        put(&rt, &mut table, 0, feature, &mut out);
+    }
+    assert!(rt; out.as_slice() == PUT_ANSWERS.as_bytes());
+    let copy = table.copy().expect(&rt, "memory");
+    assert_eq!(rt; (copy.len(), copy.rows()), (3, 8_388_608));
+}
+
+#[test]
+fn a_table_has_a_limit_of_features(rt: HostRuntime) {
+    let alloc = rt.alloc();
+    let mut table = FeatureTable::new(alloc);
+    let mut out = Vec::new(alloc);
+    for id in 0..16_384u32 {
+        let feature = large(&rt, alloc, id, 1, 1);
+        for layer in 0..16u8 {
+            let copy = feature.copy().expect(&rt, "memory");
+            put(&rt, &mut table, layer, copy, &mut out);
+        }
+    }
+    let mut table = table.copy().expect(&rt, "memory");
+    assert_eq!(rt; (table.len(), table.rows()), (262_144, 262_144));
+    out.clear();
+    put(
+        &rt,
+        &mut table,
+        3,
+        large(&rt, alloc, 16_384, 1, 1),
+        &mut out,
+    );
+    put(&rt, &mut table, 3, large(&rt, alloc, 7, 1, 1), &mut out);
+    assert!(rt; table.drop_feature(0, 7));
+    put(
+        &rt,
+        &mut table,
+        3,
+        large(&rt, alloc, 16_384, 1, 1),
+        &mut out,
+    );
+    assert!(rt;
+        out.as_slice() == b"put 3 16384 features\nput 3 7 changed\nput 3 16384 new\n".as_slice()
+    );
+}
