@@ -27,11 +27,11 @@ abbrev pub about_text : About → List ℕ
 about_text Help = HELP.now
 about_text Version = VERSION.now
 
--- what a status says of a text that is told: it was written; or, after a failed write, not all of it; or a front of it, where memory was wanting
+-- what a status says of a text that is told: it was written; or, after a failed write, not all of it; or a front of it, where memory was wanting; only a failed write is a fault of the sink
 abbrev pub IsTold : List ℕ → Option (List ℕ) → Option (List ℕ) → ℕ → ℕ → Status → Type 0
-IsTold text contents contents_after faults faults_after Done = Appends contents contents_after text
+IsTold text contents contents_after faults faults_after Done = (faults_after ≡ faults) × Appends contents contents_after text
 IsTold text contents contents_after faults faults_after WriteFault = Rose faults faults_after × ((put : List ℕ) × Appends contents contents_after put × IsProperFront put text)
-IsTold text contents contents_after faults faults_after Memory = (put : List ℕ) × Appends contents contents_after put × IsFront put text
+IsTold text contents contents_after faults faults_after Memory = (faults_after ≡ faults) × ((put : List ℕ) × Appends contents contents_after put × IsFront put text)
 IsTold text contents contents_after faults faults_after status = ⊥
 
 -- ---- how it ends

@@ -5,7 +5,7 @@ use Rattle.geo_layer.specs.declared.head.Head.{Head}
 use Rattle.session_text.specs.Generations.{BuilderState, new_builder, after_line, builder_after, all_generations, publications}
 use Rattle.session_text.specs.declared.body.BodyLine.{BodyLine}
 use Rattle.session_text.specs.declared.body.BodyLine.TheVariants.{Ask}
-use Rattle.query_server.specs.Plain.{AskCounts, no_asks, counts_after, asks_after, line_text, IsLineText, IsText, text_of, HasMemory, IsAskedOf}
+use Rattle.query_server.specs.Plain.{AskCounts, no_asks, counts_after, asks_after, text_of_line, IsLineText, IsText, text_of, HasMemory, IsAskedOf}
 
 -- a text is that one, or in it an ask is answered `memory`
 pub one_or_memory : (builder : BuilderState) (counts : AskCounts) (lines : List BodyLine) (out : List ℕ) → IsText builder counts lines out
@@ -14,7 +14,7 @@ one_or_memory builder counts [] out is = inl is
 one_or_memory builder counts (line ∷ lines) out (first, rest, split, here, more) =
     ⊎_elim
     (λ own. ⊎_elim
-    (λ same. inl (split ∙ ap (λ l. l ++ rest) own ∙ ap (λ l. line_text builder counts line ++ l) same))
+    (λ same. inl (split ∙ ap (λ l. l ++ rest) own ∙ ap (λ l. text_of_line builder counts line ++ l) same))
     (λ has. inr (first, rest, split, inr (inl own, has)))
     (one_or_memory (after_line builder line) (counts_after counts line) lines rest more))
     (λ memory. inr (first, rest, split, inl (memory, more)))

@@ -8,7 +8,7 @@ use Rattle.session_text.specs.Reading.{Reading}
 use Rattle.session_text.specs.declared.body.BodyLine.{BodyLine}
 use Rattle.session_text.specs.declared.status.Status.{Status}
 use Rattle.session_text.specs.declared.status.Status.TheVariants.{WriteFault, Memory}
-use Rattle.query_server.specs.Plain.{AskCounts, no_asks, counts_after, asks_after, line_text, IsText, text_of, IsPlainText, lines_of_rounds}
+use Rattle.query_server.specs.Plain.{AskCounts, no_asks, counts_after, asks_after, text_of_line, IsText, text_of, IsPlainText, lines_of_rounds}
 use Rattle.query_server.specs.Running.{builder_of, IsAnswered, IsWritten, IsCut}
 use Rattle.query_server.specs.Promise.{StatusMeans}
 use Rattle.query_server.specs.declared.respond.Standing.{Standing}
@@ -20,7 +20,7 @@ pub some_text : (builder : BuilderState) (counts : AskCounts) (lines : List Body
 some_text builder counts [] = refl
 some_text builder counts (line ∷ lines) =
     let more = text_of (after_line builder line) (counts_after counts line) lines in
-    (line_text builder counts line, more, refl, inl refl, some_text (after_line builder line) (counts_after counts line) lines)
+    (text_of_line builder counts line, more, refl, inl refl, some_text (after_line builder line) (counts_after counts line) lines)
 
 -- ---- lines behind lines, rounds behind rounds
 

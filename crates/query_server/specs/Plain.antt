@@ -43,13 +43,13 @@ asks_after counts (line ∷ lines) = asks_after (counts_after counts line) lines
 -- ---- the text of a line
 
 -- the text of a line where memory is there: an ask's is the reply of the generation that was published last; no feed is handed in yet, so no `load` is taken
-abbrev pub line_text : BuilderState → AskCounts → BodyLine → List ℕ
-line_text builder counts (Put layer f) = put_text layer f.id (put_answer builder.table layer f)
-line_text builder counts (Drop layer id) = drop_text layer id (stands builder.table layer id)
-line_text builder counts (Load feed layer) = []
-line_text builder counts (Limit n) = limit_text n
-line_text builder counts Publish = published_text (builder.last.number + 1)
-line_text builder counts (Ask lane text) = reply_text lane (slice_index counts lane) (reply_to builder.last text)
+abbrev pub text_of_line : BuilderState → AskCounts → BodyLine → List ℕ
+text_of_line builder counts (Put layer f) = put_text layer f.id (put_answer builder.table layer f)
+text_of_line builder counts (Drop layer id) = drop_text layer id (stands builder.table layer id)
+text_of_line builder counts (Load feed layer) = []
+text_of_line builder counts (Limit n) = limit_text n
+text_of_line builder counts Publish = published_text (builder.last.number + 1)
+text_of_line builder counts (Ask lane text) = reply_text lane (slice_index counts lane) (reply_to builder.last text)
 
 -- the text has a fault that is found before any room is asked for
 abbrev pub is_refused_outright : List ℕ → Bool
@@ -62,7 +62,7 @@ IsMemoryText counts line out = ⊥
 
 -- the text that a line may be answered with: its own, or, where it asks, that memory was wanting
 abbrev pub IsLineText : BuilderState → AskCounts → BodyLine → List ℕ → Type 0
-IsLineText builder counts line out = (out ≡ line_text builder counts line) ⊎ IsMemoryText counts line out
+IsLineText builder counts line out = (out ≡ text_of_line builder counts line) ⊎ IsMemoryText counts line out
 
 -- ---- the text of lines and rounds
 
@@ -75,7 +75,7 @@ IsText builder counts (line ∷ lines) out =
 -- their text where memory is there
 abbrev pub text_of : BuilderState → AskCounts → List BodyLine → List ℕ
 text_of builder counts [] = []
-text_of builder counts (line ∷ lines) = line_text builder counts line ++ text_of (after_line builder line) (counts_after counts line) lines
+text_of builder counts (line ∷ lines) = text_of_line builder counts line ++ text_of (after_line builder line) (counts_after counts line) lines
 
 -- in this text of these lines an ask is answered `memory`
 abbrev pub HasMemory : BuilderState → AskCounts → List BodyLine → List ℕ → Type 0

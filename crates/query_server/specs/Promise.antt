@@ -45,7 +45,7 @@ StatusMeans limit ended count Memory read put = (text : List ℕ) × IsTextOf re
 abbrev pub block_limit : ℕ
 block_limit = 65536
 
--- a call reads no further than it has to, and writes before it reads on: before the last bytes, of one block at the most, no line is refused or `end`; and what is written begins with a text of the rounds that were closed before them
+-- a call takes little behind its end, and writes before it reads on, since a write may fail at any time: before the last bytes, of one block at the most, no line is refused or `end`; and what is written begins with a text of the rounds that were closed before them
 abbrev pub IsPrompt : Kind → List ℕ → List ℕ → Type 0
 IsPrompt kind taken put = (before : List ℕ) × (last : List ℕ) × (taken ≡ before ++ last) × (length last ≤ block_limit)
     × ((reading 0 kind false before).ending ≡ unended) × ((text : List ℕ) × IsTextOf (reading 0 kind false before) text × IsFront text put)

@@ -16,8 +16,8 @@ pub fn texts_differ_by_memory_alone()
         → ¬ (HasMemoryReply head rounds out) → ¬ (HasMemoryReply head rounds other) → out ≡ other }
 {}
 
-/// In a text of the lines of a session each ask is answered from the generation whose place among all generations of the
-/// session is the number of publications before the ask.
+/// In a text of the lines of a session each ask is answered `memory`, or from the generation whose place among all
+/// generations of the session is the number of publications before the ask.
 pub fn asks_are_answered_from_the_last_publication()
     ensures { (head : Head) (before later : List BodyLine) (lane : ℕ) (text out : List ℕ)
         → IsText (new_builder head) no_asks (before ++ Ask lane text ∷ later) out → IsAskedOf head before later lane text out }

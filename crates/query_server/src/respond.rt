@@ -1,10 +1,11 @@
 //! Answers the lines of a round in order, and makes their text.
 
-ghost use Rattle.std.specs.Prelude.{◌≡◌, ◌⊎◌, ◌<◌, ◌≤◌, ℕ, false, List, [], ◌∷◌, length, All, IsAscii, OnOk, IfOk};
+ghost use Rattle.std.specs.Prelude.{◌≡◌, ◌⊎◌, ◌<◌, ◌≤◌, ℕ, false, List, [], ◌∷◌, length, All, IsAscii, OnOk, IfOk, Ok, Err};
 ghost use Rattle.geo_layer.specs.declared.head.Head.{Head};
 ghost use Rattle.geo_query.specs.declared.reply.Reply.{Reply};
 ghost use Rattle.plain_answer.specs.Answering.{answer_of, IsOfHead};
 ghost use Rattle.feature_reader.specs.Table.{put, put_answer};
+ghost use Rattle.feature_reader.specs.declared.taker.PutFault.{PutFault};
 ghost use Rattle.session_text.specs.Generations.{new_builder};
 ghost use Rattle.session_text.specs.declared.body.BodyLine.{BodyLine};
 ghost use Rattle.session_text.specs.declared.body.BodyLine.TheVariants as body;
@@ -108,6 +109,7 @@ fn taken(
     requires { layer < 16 }
     ensures answer { IfOk result (λ answer. answer ≡ put_answer table.old layer feature) }
     ensures table { OnOk result (table.new ≡ put table.old layer feature) }
+    ensures limit { (fault : PutFault) → put_answer table.old layer feature ≡ Err fault → result ≡ Ok (Err fault) }
 {
     match table.take(layer, feature) {
         Ok(taken) => Ok(Ok(taken)),
