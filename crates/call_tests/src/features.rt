@@ -5,11 +5,9 @@ ghost use Rattle.feature_reader.specs.FeatureView.{zoom_of};
 
 use feature_reader::feature::Feature;
 use feature_reader::read_feature::read_feature;
-use feature_reader::simple::is_simple_feature;
 use feature_reader::table::FeatureTable;
 use feature_reader::taker::{PutFault, Taken, Taker};
 use geo_base::refusal::Refused;
-use geo_layer::json::read_json;
 use geo_layer::langs::Langs;
 use geo_layer::layer::Layer;
 use geo_text::text::Text;
@@ -24,16 +22,13 @@ pub fn place(rt: &impl Abort, alloc: Global) -> Layer {
     Layer::new(alloc, Text::of(alloc, "place").expect(rt, "memory"), 6)
 }
 
-/// The feature of a layer that a simple text stands for, or its fault as that of line 1.
+/// The feature of a layer that a text stands for, or its fault as that of line 1.
 pub fn feature_of(
     rt: &impl Abort,
     alloc: Global,
     layer: &Layer,
     text: &str,
 ) -> Result<Feature, Status> {
-    if let Some(value) = read_json(alloc, text.as_bytes()).expect(rt, "memory") {
-        assert!(rt; is_simple_feature(&value));
-    }
     match read_feature(alloc, layer, &Langs::new(alloc), text.as_bytes()) {
         Ok(feature) => Ok(feature.copy().expect(rt, "memory")),
         Err(Refused::Fault(fault)) => Err(Status::BadLine {

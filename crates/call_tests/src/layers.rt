@@ -2,22 +2,18 @@
 
 use geo_base::refusal::Refused;
 use geo_layer::head::Head;
-use geo_layer::json::read_json;
 use geo_layer::langs::{Langs, read_langs};
 use geo_layer::layer::Layer;
 use geo_layer::layers::Layers;
-use geo_layer::read_layer::{is_simple_layer, read_layer};
+use geo_layer::read_layer::read_layer;
 use geo_text::text::Text;
 use session_text::status::{Status, status_text};
 use session_text::why::Why;
 use std::alloc::Global;
 use std::process::Abort;
 
-/// Adds the layer that a simple text stands for. Where it stands for none, answers its fault as that of line 1; else `Done`.
+/// Adds the layer that a text stands for. Where it stands for none, answers its fault as that of line 1; else `Done`.
 pub fn add_layer(rt: &impl Abort, alloc: Global, text: &str, layers: &mut Layers) -> Status {
-    if let Some(value) = read_json(alloc, text.as_bytes()).expect(rt, "memory") {
-        assert!(rt; is_simple_layer(&value));
-    }
     match read_layer(alloc, text, layers) {
         Ok(layer) => {
             layers.push(layer).expect(rt, "memory");

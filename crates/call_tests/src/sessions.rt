@@ -80,7 +80,7 @@ fn told(rt: &impl Abort, alloc: Global, text: &str) -> String {
 type Pieces = (&'static str, &'static str, u32, &'static str);
 
 /// Sessions, and what they give: 4,096 asks are the most of a round, and 1,048,576 bytes the most of a line.
-const SESSIONS: [(Pieces, Pieces); 14] = [
+const SESSIONS: [(Pieces, Pieces); 12] = [
     (
         (
             "carmen 1\nlangs fr en\nlayer {\"name\":\"a\",\"zoom\":6}\n\n# comment\npublish\r\nput 0 {\"id\":1,\"properties\":{\"carmen:text\":\"a\",\"carmen:zxy\":[\"6/1/1\"]}}\nlimit 9\n",
@@ -183,24 +183,6 @@ const SESSIONS: [(Pieces, Pieces); 14] = [
             "",
         ),
         ("carmen: line 3: 10 Feature 3 Text", "", 0, ""),
-    ),
-    (
-        (
-            "carmen 1\nlayer {\"name\":\"a\",\"zoom\":6}\nput 0 {\"properties\":{\"carmen:relev\":80}}",
-            "",
-            0,
-            "",
-        ),
-        ("carmen: line 3: 12 NotYet", "", 0, ""),
-    ),
-    (
-        (
-            "carmen 1\nlayer {\"name\":\"a\",\"zoom\":6}\nask 0 lang=fr | a",
-            "",
-            0,
-            "",
-        ),
-        ("carmen: line 3: 12 NotYet", "", 0, ""),
     ),
 ];
 

@@ -1,28 +1,35 @@
--- The phrases of a text, collected part after part, are its distinct phrases.
-use Rattle.std.proofs.Common.{◌≡◌, ◌∙◌, ◌<◌, ◌==◌, ℕ, Bool, true, false, cond, not, List, [], ◌∷◌, ◌++◌, ◌&&◌, ◌||◌, length, map, filter, fold, refl, sym, ap, arith, append_assoc, append-nil}
-use Rattle.std.specs.Prelude.{bytes_eq, MatchOption, Option, None, Some}
-use Rattle.std.specs.List.{list_any, position_or_len, before_first, after_first}
-use Rattle.std.proofs.lemmas.List.Splits.{slice_split_none, slice_split_first}
-use Rattle.std.proofs.lemmas.List.Sums.{fails_before_first}
-use denote.Ref.{Bor}
-use Rattle.std.specs.BTreeSet.{BTreeSet, contains_text}
+-- The phrases of a feature, collected part after part, are its distinct phrases.
+use Rattle.std.proofs.Common.{◌≡◌, ◌∙◌, ◌==◌, ◌-◌, ℕ, Bool, true, false, cond, not, List, [], ◌∷◌, ◌++◌, ◌&&◌, ◌||◌, map, filter, fold, min, refl, sym, ap, arith, append_assoc, append-nil, Result, Ok, Err}
+use Rattle.std.specs.Prelude.{bytes_eq, is_ok, flat_map}
+use Rattle.std.specs.List.{list_any, list_all}
+use Rattle.std.specs.BTreeSet.{BTreeSet, contains}
 use Rattle.std.specs.BTreeSet as sorted
+use Rattle.std.specs.BTreeMap.{is_at}
 use Rattle.std.specs.String.{string_cmp}
-use Rattle.std.specs.Ordering.{nat_cmp}
-use Rattle.std.specs.Cmp.Lexicographic.{slice_cmp}
+use Rattle.std.specs.Ordering.{nat_cmp, is_eq, ordering_then}
 use Rattle.std.specs.Prelude.{String, string_bytes}
+use Rattle.std.specs.declared.cmp.Ordering.{Ordering}
+use Rattle.std.specs.declared.cmp.Ordering.TheVariants.{Less, Equal, Greater}
 use Rattle.std.specs.declared.alloc.Global.{Global}
 use Rattle.std.proofs.lemmas.Bool.{and_parts, false_from_ne_true, not-true, not-false}
 use Rattle.std.proofs.lemmas.Bool.Decides.{nat_tests}
 use Rattle.std.proofs.lemmas.List.Folds.{list_any-append}
-use Rattle.std.proofs.lemmas.Map.Text.{btree_set_updates_text}
+use Rattle.std.proofs.lemmas.List.Sums.{fold-append}
+use Rattle.std.proofs.lemmas.Map.Text.{is_eq-slice_cmp}
 use Rattle.std.proofs.lemmas.Slice.Eq.{bytes_eq-Decides}
+use Rattle.serde_json.specs.Data.{Data, Members, no_members}
+use Rattle.serde_json.specs.Data as json
+use Rattle.serde_json.specs.View.{view, members_view}
+use Rattle.serde_json.specs.declared.value.Value.{Value}
 use Rattle.geo_text.specs.Tokens.{Replacements, tokens_of, replaced, joined, are_some_tokens}
 use Rattle.geo_text.specs.Parts.{pieces, ranked}
-use Rattle.feature_reader.specs.Languages.{all_languages}
-use Rattle.feature_reader.specs.Feature.{phrases_of, same_phrase, distinct}
-use Rattle.feature_reader.specs.Collected.{AreLater, phrase_at, with_phrase, with_text, with_piece}
+use Rattle.geo_layer.specs.Json.{◌>>=◌}
+use Rattle.feature_reader.specs.Languages.{all_languages, bits_of, other_languages}
+use Rattle.feature_reader.specs.Feature.{phrases_of, same_phrase, distinct, own_texts, all_phrases}
+use Rattle.feature_reader.specs.Collected.{AreSeen, phrase_of_key, key_cmp, with_phrase, with_piece, with_own, without_language, own_text_of, after_texts, after_members}
 use Rattle.feature_reader.specs.declared.phrase.Phrase.{Phrase}
+use Rattle.feature_reader.specs.declared.text_phrases.PhraseKey.{PhraseKey}
+use Rattle.feature_reader.specs.declared.feature.FeatureFault.{FeatureFault}
 
 -- ---- equal phrases
 
@@ -115,56 +122,117 @@ collected_all qs = collected [] qs ∙ filter_all (distinct qs)
 
 -- ---- piece after piece
 
--- a part with its relevance as a phrase
-abbrev phrase_of : List (List ℕ) × ℕ → Phrase
-phrase_of part = record { text = joined part.0; set = record { bits = all_languages }; relev = part.1 }
+module _ (set cap : ℕ) where
+  -- a part with its relevance as a phrase
+  abbrev part_phrase : List (List ℕ) × ℕ → Phrase
+  part_phrase part = record { text = joined part.0; set = record { bits = set }; relev = part.1 }
 
--- a later part
-abbrev later : List (List ℕ) → List (List ℕ) × ℕ
-later tokens = (tokens, 80)
+  -- a later part
+  abbrev later_part : List (List ℕ) → List (List ℕ) × ℕ
+  later_part tokens = (tokens, min cap 80)
 
--- some phrases stay some
-stay_some : (p : Phrase) (ps : List Phrase) (q : Phrase) → with_phrase (p ∷ ps) q ≡ p ∷ cond (list_any (same_phrase q) (p ∷ ps)) ps (ps ++ q ∷ [])
-stay_some p ps q = elim (list_any (same_phrase q) (p ∷ ps)) as (λ b. cond b (p ∷ ps) ((p ∷ ps) ++ q ∷ []) ≡ p ∷ cond b ps (ps ++ q ∷ [])) [ true ↦ refl | false ↦ refl ]
+  later_pieces : (toks : List (List (List ℕ))) (ps : List Phrase) → (fold (with_piece set cap) (ps, min cap 80) toks).0 ≡ fold with_phrase ps (map part_phrase (map later_part (filter are_some_tokens toks)))
+  later_pieces [] ps = refl
+  later_pieces (tokens ∷ toks) ps =
+      elim (are_some_tokens tokens) as (λ b. (fold (with_piece set cap) (cond b (with_phrase ps (part_phrase (tokens, min cap 80)), min cap 80) (ps, min cap 80)) toks).0 ≡ fold with_phrase ps (map part_phrase (map later_part (cond b (tokens ∷ filter are_some_tokens toks) (filter are_some_tokens toks))))) [
+        | true ↦ later_pieces toks (with_phrase ps (part_phrase (tokens, min cap 80)))
+        | false ↦ later_pieces toks ps
+      ]
 
-later_pieces : (toks : List (List (List ℕ))) (p : Phrase) (ps : List Phrase) → fold with_piece (p ∷ ps) toks ≡ fold with_phrase (p ∷ ps) (map phrase_of (map later (filter are_some_tokens toks)))
-later_pieces [] p ps = refl
-later_pieces (tokens ∷ toks) p ps =
-    elim (are_some_tokens tokens) as (λ b. fold with_piece (cond b (with_text (p ∷ ps) (joined tokens)) (p ∷ ps)) toks ≡ fold with_phrase (p ∷ ps) (map phrase_of (map later (cond b (tokens ∷ filter are_some_tokens toks) (filter are_some_tokens toks))))) [
-      | true ↦
-          let more = stay_some p ps (phrase_of (later tokens)) in
-          ap (λ l. fold with_piece l toks) more
-          ∙ later_pieces toks p _
-          ∙ ap (λ l. fold with_phrase l (map phrase_of (map later (filter are_some_tokens toks)))) (sym more)
-      | false ↦ later_pieces toks p ps
-    ]
-
-all_pieces : (toks : List (List (List ℕ))) → fold with_piece [] toks ≡ fold with_phrase [] (map phrase_of (ranked 100 (filter are_some_tokens toks)))
-all_pieces [] = refl
-all_pieces (tokens ∷ toks) =
-    elim (are_some_tokens tokens) as (λ b. fold with_piece (cond b (with_text [] (joined tokens)) []) toks ≡ fold with_phrase [] (map phrase_of (ranked 100 (cond b (tokens ∷ filter are_some_tokens toks) (filter are_some_tokens toks))))) [
-      | true ↦ later_pieces toks (phrase_of (tokens, 100)) []
-      | false ↦ all_pieces toks
-    ]
+  all_pieces : (toks : List (List (List ℕ))) (ps : List Phrase) → (fold (with_piece set cap) (ps, min cap 100) toks).0 ≡ fold with_phrase ps (map part_phrase (ranked cap (filter are_some_tokens toks)))
+  all_pieces [] ps = refl
+  all_pieces (tokens ∷ toks) ps =
+      elim (are_some_tokens tokens) as (λ b. (fold (with_piece set cap) (cond b (with_phrase ps (part_phrase (tokens, min cap 100)), min cap 80) (ps, min cap 100)) toks).0 ≡ fold with_phrase ps (map part_phrase (ranked cap (cond b (tokens ∷ filter are_some_tokens toks) (filter are_some_tokens toks))))) [
+        | true ↦ later_pieces toks (with_phrase ps (part_phrase (tokens, min cap 100)))
+        | false ↦ all_pieces toks ps
+      ]
 
 -- the tokens of each piece of a text, each replaced
 abbrev pub tokens_in : Replacements → List (List ℕ) → List (List (List ℕ))
 tokens_in replacements parts = map (λ piece. replaced replacements (tokens_of piece)) parts
 
--- collected piece after piece, they are the distinct phrases of the text
-pub phrases_collected : (replacements : Replacements) (text : List ℕ) → distinct (phrases_of replacements 100 text all_languages) ≡ fold with_piece [] (tokens_in replacements (pieces text))
-phrases_collected replacements text = sym (collected_all (phrases_of replacements 100 text all_languages)) ∙ sym (all_pieces (tokens_in replacements (pieces text)))
+-- collected piece after piece, they are the phrases of the text
+pub phrases_collected : (replacements : Replacements) (cap : ℕ) (text : List ℕ) (set : ℕ) (ps : List Phrase) → fold with_phrase ps (phrases_of replacements cap text set) ≡ (fold (with_piece set cap) (ps, min cap 100) (tokens_in replacements (pieces text))).0
+phrases_collected replacements cap text set ps = sym (all_pieces set cap (tokens_in replacements (pieces text)) ps)
 
--- ---- the texts of relevance 80 beside the phrases
+-- ---- text after text
 
--- the set with a text tells of the phrases with it
-pub later_with : (texts more : BTreeSet (String Global)) (ps : List Phrase) (text : List ℕ) → AreLater texts ps → sorted.UpdatesBy string_cmp (λ k. slice_cmp nat_cmp text (string_bytes k)) texts more true → AreLater more (ps ++ phrase_at 80 text ∷ [])
-later_with texts more ps text known updates = λ q.
-    btree_set_updates_text text texts more true updates q
-    ∙ one (bytes_eq text q) (bytes_eq q text) (contains_text texts q) _ (bytes_back text q) (known q)
-    ∙ sym (list_any-append (same_phrase (phrase_at 80 q)) ps (phrase_at 80 text ∷ []))
+module _ {X : Type 0} (f : X → List ℕ × List ℕ → X) where
+  after_step : (x : X) (first : Result (List (List ℕ × List ℕ)) FeatureFault) (more : Result (List (List ℕ × List ℕ)) FeatureFault) (after : X → X) (own : List (List ℕ × List ℕ))
+      → ((rest : List (List ℕ × List ℕ)) → more ≡ Ok rest → (y : X) → after y ≡ fold f y rest)
+      → (first >>= λ a. more >>= λ b. Ok (a ++ b)) ≡ Ok own → after (after_texts f x first) ≡ fold f x own
+  after_step x (Err e) more after own rest is = absurd (cc is)
+  after_step x (Ok a) (Err e) after own rest is = absurd (cc is)
+  after_step x (Ok a) (Ok b) after own rest is =
+      let same : a ++ b ≡ own = cc is in
+      rest b refl (fold f x a) ∙ (sym (fold-append f x a b) ∙ ap (fold f x) same)
+
+  -- member after member it is text after text
+  pub after_own_texts : (members : Members) (x : X) (own : List (List ℕ × List ℕ)) → own_texts members ≡ Ok own → after_members f x members ≡ fold f x own
+  after_own_texts no_members x own is = let same : [] ≡ own = cc is in ap (fold f x) same
+  after_own_texts (json.member name d members) x own is =
+      after_step x (own_text_of name d) (own_texts members) (λ y. after_members f y members) own (λ rest e y. after_own_texts members y rest e) is
+
+-- the languages without those of the texts
+others_collected : (langs : List (List ℕ)) (own : List (List ℕ × List ℕ)) (set : ℕ) → fold (without_language langs) set own ≡ fold (λ set code. set - bits_of langs code) set (map (λ t. t.0) own)
+others_collected langs [] set = refl
+others_collected langs (t ∷ own) set = others_collected langs own (set - bits_of langs t.0)
+
+-- the phrases of each text after those of the texts before
+own_collected : (r : Replacements) (langs : List (List ℕ)) (cap : ℕ) (own : List (List ℕ × List ℕ)) (ps : List Phrase) → fold (with_own r langs cap) ps own ≡ fold with_phrase ps (flat_map (λ t. phrases_of r cap t.1 (bits_of langs t.0)) own)
+own_collected r langs cap [] ps = refl
+own_collected r langs cap (t ∷ own) ps =
+    own_collected r langs cap own (fold with_phrase ps (phrases_of r cap t.1 (bits_of langs t.0)))
+    ∙ sym (fold-append with_phrase ps (phrases_of r cap t.1 (bits_of langs t.0)) (flat_map (λ t. phrases_of r cap t.1 (bits_of langs t.0)) own))
+
+-- the phrases of the text and then of the members are those of the feature
+pub feature_collected : (r : Replacements) (langs : List (List ℕ)) (cap : ℕ) (text : List ℕ) (members : Members) (own : List (List ℕ × List ℕ)) (others : ℕ) (first all : List Phrase) → own_texts members ≡ Ok own
+    → others ≡ after_members (without_language langs) all_languages members → first ≡ fold with_phrase [] (phrases_of r cap text others) → all ≡ after_members (with_own r langs cap) first members → all ≡ all_phrases r langs cap text own
+feature_collected r langs cap text members own others first all is set begun ended =
+    let same : others ≡ other_languages langs (map (λ t. t.0) own) = set ∙ (after_own_texts (without_language langs) members all_languages own is ∙ others_collected langs own all_languages) in
+    let more : List Phrase = flat_map (λ t. phrases_of r cap t.1 (bits_of langs t.0)) own in
+    ended
+    ∙ after_own_texts (with_own r langs cap) members first own is
+    ∙ own_collected r langs cap own first
+    ∙ ap (λ ps. fold with_phrase ps more) (begun ∙ ap (λ bits. fold with_phrase [] (phrases_of r cap text bits)) same)
+    ∙ sym (fold-append with_phrase [] (phrases_of r cap text (other_languages langs (map (λ t. t.0) own))) more)
+    ∙ collected_all (phrases_of r cap text (other_languages langs (map (λ t. t.0) own)) ++ more)
+
+-- each member is no text in a language or a string
+pub fair_members : (ms : List (String Global × Value)) → list_all (λ m. is_ok (own_text_of (string_bytes m.0) (view m.1))) ms ≡ is_ok (own_texts (members_view ms))
+fair_members [] = refl
+fair_members (m ∷ ms) = ap (λ b. is_ok (own_text_of (string_bytes m.0) (view m.1)) && b) (fair_members ms) ∙ both (own_text_of (string_bytes m.0) (view m.1)) (own_texts (members_view ms))
   where
-    one : (b c d e : Bool) → b ≡ c → d ≡ e → cond b true d ≡ (e || ((c && true) || false))
+    both : (first more : Result (List (List ℕ × List ℕ)) FeatureFault) → (is_ok first && is_ok more) ≡ is_ok (first >>= λ a. more >>= λ b. Ok (a ++ b))
+    both (Err e) more = refl
+    both (Ok a) (Err e) = refl
+    both (Ok a) (Ok b) = refl
+
+-- ---- the keys beside the phrases
+
+then_eq : (a b : Ordering) → is_eq (ordering_then a b) ≡ (is_eq a && is_eq b)
+then_eq Less b = refl
+then_eq Equal b = refl
+then_eq Greater b = refl
+
+nat_eq_cmp : (m n : ℕ) → is_eq (nat_cmp m n) ≡ (m == n)
+nat_eq_cmp m n = grind (arith, nat_tests)
+
+-- two keys are equal where their phrases are the same
+same_key : (a b : PhraseKey) → is_at (key_cmp a) b ≡ same_phrase (phrase_of_key a) (phrase_of_key b)
+same_key a b =
+    then_eq (string_cmp a.text b.text) (ordering_then (nat_cmp a.bits b.bits) (nat_cmp a.relev b.relev))
+    ∙ (ap (λ t. t && is_eq (ordering_then (nat_cmp a.bits b.bits) (nat_cmp a.relev b.relev))) (is_eq-slice_cmp (string_bytes a.text) (string_bytes b.text))
+    ∙ ap (λ t. bytes_eq (string_bytes a.text) (string_bytes b.text) && t) (then_eq (nat_cmp a.bits b.bits) (nat_cmp a.relev b.relev) ∙ (ap (λ t. t && is_eq (nat_cmp a.relev b.relev)) (nat_eq_cmp a.bits b.bits) ∙ ap (λ t. (a.bits == b.bits) && t) (nat_eq_cmp a.relev b.relev))))
+
+-- the set with a key tells of the phrases with its phrase
+pub seen_with : (seen more : BTreeSet PhraseKey) (ps : List Phrase) (key : PhraseKey) → AreSeen seen ps → sorted.Updates key_cmp seen more key true → AreSeen more (ps ++ phrase_of_key key ∷ [])
+seen_with seen more ps key known updates = λ k.
+    updates.0 k
+    ∙ one (is_at (key_cmp key) k) (same_phrase (phrase_of_key k) (phrase_of_key key)) (contains key_cmp seen k) _ (same_key key k ∙ same_turned (phrase_of_key key) (phrase_of_key k)) (known k)
+    ∙ sym (list_any-append (same_phrase (phrase_of_key k)) ps (phrase_of_key key ∷ []))
+  where
+    one : (b c d e : Bool) → b ≡ c → d ≡ e → cond b true d ≡ (e || (c || false))
     one true true d true bc de = refl
     one true true d false bc de = refl
     one true false d e bc de = cc
@@ -174,16 +242,18 @@ later_with texts more ps text known updates = λ q.
     one false false true false bc de = cc
     one false false false true bc de = cc
 
-    bytes_back : (a b : List ℕ) → bytes_eq a b ≡ bytes_eq b a
-    bytes_back a b = grind (arith, nat_tests, bytes_eq-Decides a b, bytes_eq-Decides b a)
+    same_turned : (p q : Phrase) → same_phrase p q ≡ same_phrase q p
+    same_turned p q = by (same_phrase p q) refl
+      where
+        by : (b : Bool) → same_phrase p q ≡ b → b ≡ same_phrase q p
+        by true e = sym (ap (λ r. same_phrase q r) (same_is p q e) ∙ same_itself q)
+        by false e = sym (same_back p q e)
 
--- ---- the first piece of a text
-
--- a text is cut at its first comma
-pub cut_pieces : (text : List ℕ) (r : Option (Bor (List ℕ) × Bor (List ℕ)))
-    → MatchOption r (position_or_len (λ b. b == 44) text ≡ length text) (λ x. (x.0.now ≡ before_first (λ b. b == 44) text) × (x.1.now ≡ after_first (λ b. b == 44) text) × (position_or_len (λ b. b == 44) text < length text))
-    → MatchOption r (pieces text ≡ text ∷ []) (λ p. pieces text ≡ p.0.now ∷ pieces p.1.now)
-cut_pieces text None none = slice_split_none (λ b. b == 44) text (λ k d lt. fails_before_first (λ b. b == 44) text k d (omega (arith, lt, none)))
-cut_pieces text (Some x) found =
-    slice_split_first (λ b. b == 44) text 0 found.2
-    ∙ (ap (λ l. l ∷ pieces (after_first (λ b. b == 44) text)) (sym found.0) ∙ ap (λ l. x.0.now ∷ pieces l) (sym found.1))
+-- whether a key is new tells whether its phrase is
+pub with_new : (seen : BTreeSet PhraseKey) (ps : List Phrase) (key : PhraseKey) (p : Phrase) → AreSeen seen ps → phrase_of_key key ≡ p → (added : Bool) → added ≡ not (contains key_cmp seen key) → cond added (ps ++ p ∷ []) ps ≡ with_phrase ps p
+with_new seen ps key p known is added told =
+    turned added (contains key_cmp seen key) told ∙ ap (λ b. cond b ps (ps ++ p ∷ [])) (known key ∙ ap (λ q. list_any (same_phrase q) ps) is)
+  where
+    turned : (a b : Bool) → a ≡ not b → cond a (ps ++ p ∷ []) ps ≡ cond b ps (ps ++ p ∷ [])
+    turned a true e = ap (λ t. cond t (ps ++ p ∷ []) ps) e
+    turned a false e = ap (λ t. cond t (ps ++ p ∷ []) ps) e

@@ -1,101 +1,88 @@
--- The feature of a simple value, step by step.
-use Rattle.std.proofs.Common.{◌≡◌, ◌∙◌, ℕ, Bool, pos, true, false, ◌==◌, List, [], refl, sym, ap, subst, append-nil, None, Some, Option, Result, Ok, Err, ok_or}
-use Rattle.std.specs.Prelude.{codes, option_and_then, option_map, IfErr}
+-- The feature of a value, step by step.
+use Rattle.std.proofs.Common.{◌≡◌, ◌∙◌, ℕ, Bool, pos, true, false, ◌==◌, List, [], ◌∷◌, ◌++◌, refl, sym, ap, subst, None, Some, Option, Result, Ok, Err, ok_or}
+use Rattle.std.specs.Prelude.{codes, option_and_then, option_map, IfErr, is_ok}
 use Rattle.std.specs.List.{list_all}
-use Rattle.std.proofs.lemmas.Bool.{and_parts}
-use Rattle.serde_json.specs.Data.{Data, object, Members}
-use Rattle.serde_json.specs.Find.{as_str, get_member}
+use Rattle.serde_json.specs.Data.{Data, object, Members, no_members}
+use Rattle.serde_json.specs.Data as json
+use Rattle.serde_json.specs.Find.{as_str}
 use Rattle.geo_base.specs.TileView.{TileView}
 use Rattle.geo_text.specs.Numbers.{below}
 use Rattle.geo_layer.specs.Json.{member, present, natural_of, whole_of, wanted, optional, ◌>>=◌}
 use Rattle.geo_layer.specs.Layer.{LayerView}
 use Rattle.feature_reader.specs.FeatureView.{FeatureView}
-use Rattle.feature_reader.specs.Languages.{all_languages}
 use Rattle.feature_reader.specs.Tiles.{tiles_of, rising}
-use Rattle.feature_reader.specs.Simple.{is_simple_feature, are_simple}
-use Rattle.feature_reader.specs.Feature.{feature_of_data, needs_no_room, feature_in, properties_of, relevance_of, phrases_of, all_phrases, distinct, level}
-use Rattle.feature_reader.specs.declared.phrase.Phrase.{Phrase}
+use Rattle.feature_reader.specs.Feature.{feature_of_data, needs_no_room, feature_in, properties_of, relevance_of, text_code, own_text, own_texts, all_phrases, level}
 use Rattle.feature_reader.specs.declared.feature.FeatureFault.{FeatureFault}
 use Rattle.feature_reader.specs.declared.feature.FeatureFault.TheVariants as fault
-use Rattle.feature_reader.proofs.SimpleFacts.{lacks_own_texts, lacks_relevance}
 
--- what comes after the texts by language are known and the relevance is looked for
-abbrev rest_of : LayerView → List (List ℕ) → Data → Members → Result (List (List ℕ × List ℕ)) FeatureFault → Option Data → Result FeatureView FeatureFault
-rest_of layer langs d members own relev =
-    ok_or (option_and_then (below 67108864) (option_and_then natural_of (member (codes "id") d))) fault.Id >>= λ id.
-    ok_or (option_and_then as_str (present (get_member (codes "carmen:text") members))) fault.Text >>= λ text.
-    own >>= λ own.
-    ok_or (tiles_of (present (get_member (codes "carmen:zxy") members))) fault.Zxy >>= λ tiles.
-    wanted (list_all (λ t. t.z == layer.zoom) tiles) fault.Zoom >>= λ _.
-    optional whole_of (pos 0) fault.Score (present (get_member (codes "carmen:score") members)) >>= λ score.
-    optional relevance_of 100 fault.Relev relev >>= λ cap.
-    Ok (record { id = id; score = level layer.scoremax score; phrases = all_phrases layer.tokens langs cap text own; tiles = rising tiles })
+-- texts in languages, by code
+abbrev OwnTexts : Type 0
+OwnTexts = List (List ℕ × List ℕ)
 
--- what comes after the properties p of the simple value d are known
-abbrev pub feature_at : LayerView → List (List ℕ) → Data → Data → Result FeatureView FeatureFault
-feature_at layer langs d p =
+-- ---- the faults of texts in languages
+
+text_fault : (code : Option (List ℕ)) (d : Option Data) → is_ok (own_text code d) ≡ false → own_text code d ≡ Err fault.Text
+text_fault None d e = absurd (cc e)
+text_fault (Some code) None e = absurd (cc e)
+text_fault (Some code) (Some d) e = by (as_str d) e
+  where
+    by : (o : Option (List ℕ)) → is_ok (elim o as (λ o. Result OwnTexts FeatureFault) [ None ↦ Err fault.Text | Some text ↦ Ok ((code, text) ∷ []) ]) ≡ false → (elim o as (λ o. Result OwnTexts FeatureFault) [ None ↦ Err fault.Text | Some text ↦ Ok ((code, text) ∷ []) ]) ≡ Err fault.Text
+    by None e = refl
+    by (Some text) e = absurd (cc e)
+
+-- a text in a language that isn't a string is the fault
+pub not_fair : (members : Members) → is_ok (own_texts members) ≡ false → own_texts members ≡ Err fault.Text
+not_fair no_members e = absurd (cc e)
+not_fair (json.member name d members) e = by (own_text (text_code name) (present (Some d))) (own_texts members) (text_fault (text_code name) (present (Some d))) (not_fair members) e
+  where
+    by : (first more : Result OwnTexts FeatureFault) → (is_ok first ≡ false → first ≡ Err fault.Text) → (is_ok more ≡ false → more ≡ Err fault.Text) → is_ok (first >>= λ a. more >>= λ b. Ok (a ++ b)) ≡ false → (first >>= λ a. more >>= λ b. Ok (a ++ b)) ≡ Err fault.Text
+    by (Err e) more f g h = f refl
+    by (Ok a) (Err e) f g h = g refl
+    by (Ok a) (Ok b) f g h = absurd (cc h)
+
+-- else there are texts
+pub fair : {A : Type 0} (r : Result A FeatureFault) → is_ok r ≡ true → (x : A) × (r ≡ Ok x)
+fair (Ok x) e = (x, refl)
+fair (Err fault) e = absurd (cc e)
+
+-- ---- part after part
+
+-- what comes of the value d, the properties p and the texts in languages
+abbrev feature_at : LayerView → List (List ℕ) → Data → Data → Result OwnTexts FeatureFault → Result FeatureView FeatureFault
+feature_at layer langs d p own =
     ok_or (option_and_then (below 67108864) (option_and_then natural_of (member (codes "id") d))) fault.Id >>= λ id.
     ok_or (option_and_then as_str (member (codes "carmen:text") p)) fault.Text >>= λ text.
+    own >>= λ own.
     ok_or (tiles_of (member (codes "carmen:zxy") p)) fault.Zxy >>= λ tiles.
     wanted (list_all (λ t. t.z == layer.zoom) tiles) fault.Zoom >>= λ _.
     optional whole_of (pos 0) fault.Score (member (codes "carmen:score") p) >>= λ score.
-    Ok (record { id = id; score = level layer.scoremax score; phrases = all_phrases layer.tokens langs 100 text []; tiles = rising tiles })
+    optional relevance_of 100 fault.Relev (member (codes "carmen:relev") p) >>= λ cap.
+    Ok (record { id = id; score = level layer.scoremax score; phrases = all_phrases layer.tokens langs cap text own; tiles = rising tiles })
 
-pub with_properties : (layer : LayerView) (langs : List (List ℕ)) (d p : Data) → is_simple_feature d ≡ true → Some p ≡ option_map object (properties_of d) → feature_of_data layer langs d ≡ feature_at layer langs d p
-with_properties layer langs d p simple is =
-    elim (properties_of d) as (λ o. are_simple o ≡ true → Some p ≡ option_map object o → (ok_or o fault.Json >>= λ members. feature_in layer langs d members) ≡ feature_at layer langs d p) [
-      | None ↦ λ a e. cc
-      | Some ms ↦ λ a e.
-          let same : object ms ≡ p = cc in
-          let members = (and_parts _ _ a).0 in
-          ap (λ own. rest_of layer langs d ms own (present (get_member (codes "carmen:relev") ms))) (lacks_own_texts ms members)
-          ∙ ap (λ relev. rest_of layer langs d ms (Ok []) relev) (lacks_relevance ms members)
-          ∙ ap (feature_at layer langs d) same
-    ] simple is
-
--- the parts that were read, up to the tiles
-pub record HasParts (d p : Data) (identifier : ℕ) (words : List ℕ) (ts : List TileView) : Type 0 where
-  pub simple : is_simple_feature d ≡ true
-  pub properties : Some p ≡ option_map object (properties_of d)
+-- what was read before the texts in languages
+pub record HasText (d p : Data) (members : Members) (identifier : ℕ) (words : List ℕ) : Type 0 where
+  pub properties : properties_of d ≡ Some members
+  pub object : p ≡ object members
   pub id : Some identifier ≡ option_and_then (below 67108864) (option_and_then natural_of (member (codes "id") d))
   pub text : Some words ≡ option_and_then as_str (member (codes "carmen:text") p)
-  pub tiles : Some ts ≡ tiles_of (member (codes "carmen:zxy") p)
 
--- the level of the score that these properties have
-abbrev pub level_of : ℕ → Data → Result ℕ FeatureFault
-level_of scoremax p = optional (λ d. option_map (level scoremax) (whole_of d)) (level scoremax (pos 0)) fault.Score (member (codes "carmen:score") p)
+module _ (layer : LayerView) (langs : List (List ℕ)) (d p : Data) (members : Members) (id : ℕ) (text : List ℕ) (has : HasText d p members id text) where
+  with_properties : feature_of_data layer langs d ≡ feature_at layer langs d p (own_texts members)
+  with_properties = ap (λ o. ok_or o fault.Json >>= λ members. feature_in layer langs d members) has.properties ∙ ap (λ q. feature_at layer langs d q (own_texts members)) (sym has.object)
 
-pub other_zoom : (layer : LayerView) (langs : List (List ℕ)) (d p : Data) (id : ℕ) (text : List ℕ) (ts : List TileView) → HasParts d p id text ts → list_all (λ t. t.z == layer.zoom) ts ≡ false → feature_of_data layer langs d ≡ Err fault.Zoom
-other_zoom layer langs d p id text ts has not_all = with_properties layer langs d p has.simple has.properties ∙ rw (sym has.id, sym has.text, sym has.tiles, not_all) refl
+  -- a text in a language isn't a string
+  pub bad_text : is_ok (own_texts members) ≡ false → feature_of_data layer langs d ≡ Err fault.Text
+  bad_text e = with_properties ∙ ap (feature_at layer langs d p) (not_fair members e) ∙ rw (sym has.id, sym has.text) refl
 
--- what is made of the level of a score is made of the score
-then_made : {A B C E : Type 0} (form : Data → Option A) (default : A) (e : E) (f : A → B) (make : B → C) (d : Option Data)
-    → (optional form default e d >>= λ x. Ok (make (f x))) ≡ (optional (λ d. option_map f (form d)) (f default) e d >>= λ y. Ok (make y))
-then_made form default e f make None = refl
-then_made form default e f make (Some d) = elim (form d) as (λ o. ((elim o [ None ↦ Err e | Some x ↦ Ok x ]) >>= λ x. Ok (make (f x))) ≡ ((elim (option_map f o) [ None ↦ Err e | Some x ↦ Ok x ]) >>= λ y. Ok (make y))) [
-  | None ↦ refl
-  | Some x ↦ refl
-]
+  module _ (own : OwnTexts) (is : own_texts members ≡ Ok own) where
+    with_own_texts : feature_of_data layer langs d ≡ feature_at layer langs d p (Ok own)
+    with_own_texts = with_properties ∙ ap (feature_at layer langs d p) is
 
--- the feature, but for its level
-abbrev made : LayerView → List (List ℕ) → ℕ → List ℕ → List TileView → ℕ → FeatureView
-made layer langs id text ts n = record { id = id; score = n; phrases = all_phrases layer.tokens langs 100 text []; tiles = rising ts }
+    -- no list of tiles
+    pub bad_tiles : None ≡ tiles_of (member (codes "carmen:zxy") p) → feature_of_data layer langs d ≡ Err fault.Zxy
+    bad_tiles none = with_own_texts ∙ rw (sym has.id, sym has.text, sym none) refl
 
--- where all but the score is known
-up_to_score : (layer : LayerView) (langs : List (List ℕ)) (d p : Data) (id : ℕ) (text : List ℕ) (ts : List TileView) (n : Option ℕ) → HasParts d p id text ts → list_all (λ t. t.z == layer.zoom) ts ≡ true
-    → ok_or n fault.Score ≡ level_of layer.scoremax p → feature_of_data layer langs d ≡ (ok_or n fault.Score >>= λ n. Ok (record { id = id; score = n; phrases = all_phrases layer.tokens langs 100 text []; tiles = rising ts }))
-up_to_score layer langs d p id text ts n has all scored =
-    let known : feature_at layer langs d p ≡ (optional whole_of (pos 0) fault.Score (member (codes "carmen:score") p) >>= λ score. Ok (made layer langs id text ts (level layer.scoremax score))) = rw (sym has.id, sym has.text, sym has.tiles, all) refl in
-    with_properties layer langs d p has.simple has.properties
-    ∙ known
-    ∙ then_made whole_of (pos 0) fault.Score (level layer.scoremax) (made layer langs id text ts) (member (codes "carmen:score") p)
-    ∙ ap (λ r. r >>= λ n. Ok (made layer langs id text ts n)) (sym scored)
-
--- the phrases of a feature without texts by language
-append_none : (layer : LayerView) (langs : List (List ℕ)) (text : List ℕ) → all_phrases layer.tokens langs 100 text [] ≡ distinct (phrases_of layer.tokens 100 text all_languages)
-append_none layer langs text = ap distinct (append-nil (phrases_of layer.tokens 100 text all_languages))
-
--- ---- the faults that are found behind the text
+-- ---- the faults that are found behind the texts
 
 -- a fault is found after room is asked for
 abbrev IsLate : {A : Type 0} → Result A FeatureFault → Type 0
@@ -121,34 +108,68 @@ late_optional {A = A} form default e (Some d) late = by (form d)
     by None = late
     by (Some x) = tt
 
--- where the id and the text are there, no fault needs no room
-pub late_faults : (layer : LayerView) (langs : List (List ℕ)) (d p : Data) (id : ℕ) (text : List ℕ) → is_simple_feature d ≡ true → Some p ≡ option_map object (properties_of d)
-    → Some id ≡ option_and_then (below 67108864) (option_and_then natural_of (member (codes "id") d)) → Some text ≡ option_and_then as_str (member (codes "carmen:text") p)
+-- where the id and the texts are there, no fault needs no room
+pub late_faults : (layer : LayerView) (langs : List (List ℕ)) (d p : Data) (members : Members) (id : ℕ) (text : List ℕ) → HasText d p members id text → is_ok (own_texts members) ≡ true
     → (e : FeatureFault) → needs_no_room e ≡ true → feature_of_data layer langs d ≡ Err e → ⊥
-late_faults layer langs d p id text simple properties has_id has_text e early is =
-    let late : IsLate (feature_at layer langs d p) =
-    rw (sym has_id, sym has_text)
+late_faults layer langs d p members id text has all e early is =
+    let (own, known) = fair (own_texts members) all in
+    let late : IsLate (feature_at layer langs d p (Ok own)) =
+    rw (sym has.id, sym has.text)
     (late_bind (ok_or (tiles_of (member (codes "carmen:zxy") p)) fault.Zxy) _ (late_or _ fault.Zxy refl) (λ tiles.
     late_bind (wanted (list_all (λ t. t.z == layer.zoom) tiles) fault.Zoom) _ (late_wanted _ fault.Zoom refl) (λ _.
-    late_bind (optional whole_of (pos 0) fault.Score (member (codes "carmen:score") p)) _ (late_optional whole_of (pos 0) fault.Score (member (codes "carmen:score") p) refl) (λ score. tt)))) in
-    let none : needs_no_room e ≡ false = subst IsLate (sym (with_properties layer langs d p simple properties) ∙ is) late in
+    late_bind (optional whole_of (pos 0) fault.Score (member (codes "carmen:score") p)) _ (late_optional whole_of (pos 0) fault.Score (member (codes "carmen:score") p) refl) (λ score.
+    late_bind (optional relevance_of 100 fault.Relev (member (codes "carmen:relev") p)) _ (late_optional relevance_of 100 fault.Relev (member (codes "carmen:relev") p) refl) (λ cap. tt))))) in
+    let none : needs_no_room e ≡ false = subst IsLate (sym (with_own_texts layer langs d p members id text has own known) ∙ is) late in
     let bad : true ≡ false = sym early ∙ none in
     cc bad
 
--- no list of tiles
-pub bad_tiles : (layer : LayerView) (langs : List (List ℕ)) (d p : Data) (id : ℕ) (text : List ℕ) → is_simple_feature d ≡ true → Some p ≡ option_map object (properties_of d)
-    → Some id ≡ option_and_then (below 67108864) (option_and_then natural_of (member (codes "id") d)) → Some text ≡ option_and_then as_str (member (codes "carmen:text") p)
-    → None ≡ tiles_of (member (codes "carmen:zxy") p) → feature_of_data layer langs d ≡ Err fault.Zxy
-bad_tiles layer langs d p id text simple properties has_id has_text none = with_properties layer langs d p simple properties ∙ rw (sym has_id, sym has_text, sym none) refl
+-- ---- what follows the tiles
 
--- a score that isn't whole
-pub bad_score : (layer : LayerView) (langs : List (List ℕ)) (d p : Data) (id : ℕ) (text : List ℕ) (ts : List TileView) → HasParts d p id text ts → list_all (λ t. t.z == layer.zoom) ts ≡ true
-    → Err fault.Score ≡ level_of layer.scoremax p → feature_of_data layer langs d ≡ Err fault.Score
-bad_score layer langs d p id text ts has all scored = up_to_score layer langs d p id text ts None has all scored
+-- the level of the score that these properties have
+abbrev pub level_of : ℕ → Data → Result ℕ FeatureFault
+level_of scoremax p = optional (λ d. option_map (level scoremax) (whole_of d)) (level scoremax (pos 0)) fault.Score (member (codes "carmen:score") p)
 
--- all parts are known
-pub whole_feature : (layer : LayerView) (langs : List (List ℕ)) (d p : Data) (id : ℕ) (text : List ℕ) (ts : List TileView) (n : ℕ) → HasParts d p id text ts → list_all (λ t. t.z == layer.zoom) ts ≡ true
-    → Ok n ≡ level_of layer.scoremax p → feature_of_data layer langs d ≡ Ok (record { id = id; score = n; phrases = distinct (phrases_of layer.tokens 100 text all_languages); tiles = rising ts })
-whole_feature layer langs d p id text ts n has all scored =
-    let view : List Phrase → FeatureView = λ ps. record { id = id; score = n; phrases = ps; tiles = rising ts } in
-    up_to_score layer langs d p id text ts (Some n) has all scored ∙ ap (λ ps. Ok (view ps)) (append_none layer langs text)
+-- the cap of the relevances that these properties have
+abbrev pub cap_of : Data → Result ℕ FeatureFault
+cap_of p = optional relevance_of 100 fault.Relev (member (codes "carmen:relev") p)
+
+-- what is made of the level of a score is made of the score
+then_made : {A B C E : Type 0} (form : Data → Option A) (default : A) (e : E) (f : A → B) (make : B → Result C E) (d : Option Data)
+    → (optional form default e d >>= λ x. make (f x)) ≡ (optional (λ d. option_map f (form d)) (f default) e d >>= make)
+then_made form default e f make None = refl
+then_made form default e f make (Some d) = elim (form d) as (λ o. ((elim o [ None ↦ Err e | Some x ↦ Ok x ]) >>= λ x. make (f x)) ≡ ((elim (option_map f o) [ None ↦ Err e | Some x ↦ Ok x ]) >>= make)) [
+  | None ↦ refl
+  | Some x ↦ refl
+]
+
+module _ (layer : LayerView) (langs : List (List ℕ)) (d p : Data) (members : Members) (id : ℕ) (text : List ℕ) (has : HasText d p members id text)
+    (own : OwnTexts) (is : own_texts members ≡ Ok own) (ts : List TileView) (has_tiles : Some ts ≡ tiles_of (member (codes "carmen:zxy") p)) where
+  -- a tile has another zoom
+  pub other_zoom : list_all (λ t. t.z == layer.zoom) ts ≡ false → feature_of_data layer langs d ≡ Err fault.Zoom
+  other_zoom not_all = with_own_texts layer langs d p members id text has own is ∙ rw (sym has.id, sym has.text, sym has_tiles, not_all) refl
+
+  -- the feature, but for its level and the cap
+  abbrev made : ℕ → ℕ → FeatureView
+  made n cap = record { id = id; score = n; phrases = all_phrases layer.tokens langs cap text own; tiles = rising ts }
+
+  -- where all but the score and the cap is known
+  up_to_score : (n : Option ℕ) → list_all (λ t. t.z == layer.zoom) ts ≡ true → ok_or n fault.Score ≡ level_of layer.scoremax p
+      → feature_of_data layer langs d ≡ (ok_or n fault.Score >>= λ n. cap_of p >>= λ cap. Ok (made n cap))
+  up_to_score n all scored =
+      let known : feature_at layer langs d p (Ok own) ≡ (optional whole_of (pos 0) fault.Score (member (codes "carmen:score") p) >>= λ score. cap_of p >>= λ cap. Ok (made (level layer.scoremax score) cap)) = rw (sym has.id, sym has.text, sym has_tiles, all) refl in
+      with_own_texts layer langs d p members id text has own is
+      ∙ known
+      ∙ then_made whole_of (pos 0) fault.Score (level layer.scoremax) (λ n. cap_of p >>= λ cap. Ok (made n cap)) (member (codes "carmen:score") p)
+      ∙ ap (λ r. r >>= λ n. cap_of p >>= λ cap. Ok (made n cap)) (sym scored)
+
+  -- a score that isn't whole
+  pub bad_score : list_all (λ t. t.z == layer.zoom) ts ≡ true → Err fault.Score ≡ level_of layer.scoremax p → feature_of_data layer langs d ≡ Err fault.Score
+  bad_score all scored = up_to_score None all scored
+
+  -- a relevance that is none
+  pub bad_relevance : (n : ℕ) → list_all (λ t. t.z == layer.zoom) ts ≡ true → Ok n ≡ level_of layer.scoremax p → Err fault.Relev ≡ cap_of p → feature_of_data layer langs d ≡ Err fault.Relev
+  bad_relevance n all scored none = up_to_score (Some n) all scored ∙ ap (λ r. r >>= λ cap. Ok (made n cap)) (sym none)
+
+  -- all parts are known
+  pub whole_feature : (n cap : ℕ) → list_all (λ t. t.z == layer.zoom) ts ≡ true → Ok n ≡ level_of layer.scoremax p → Ok cap ≡ cap_of p → feature_of_data layer langs d ≡ Ok (record { id = id; score = n; phrases = all_phrases layer.tokens langs cap text own; tiles = rising ts })
+  whole_feature n cap all scored capped = up_to_score (Some n) all scored ∙ ap (λ r. r >>= λ cap. Ok (made n cap)) (sym capped)

@@ -3,7 +3,7 @@ mod Tables
 mod Rows
 mod TileTexts
 mod Listed
-mod SimpleFacts
+mod OwnTexts
 mod Rising
 mod PhraseFacts
 mod Levels

@@ -1,9 +1,10 @@
 -- What the type of a feature keeps of its phrases, and of its other parts.
-use Rattle.std.proofs.Common.{◌≡◌, ◌≢◌, ◌∙◌, ◌<◌, ◌≤◌, ◌==◌, ℕ, true, false, cond, not, List, [], ◌∷◌, length, map, filter, refl, sym, ap, arith, Option, None, Some, unwrap_or, inr, inl, All}
-use Rattle.std.specs.Prelude.{bytes_eq, AllPairs, IfSome}
+use Rattle.std.proofs.Common.{◌≡◌, ◌≢◌, ◌∙◌, ◌<◌, ◌≤◌, ◌==◌, ℕ, Bool, true, false, cond, not, nat_le, min, List, [], ◌∷◌, ◌++◌, length, map, filter, refl, sym, ap, subst, arith, Option, None, Some, unwrap_or, inr, inl, All}
+use Rattle.std.specs.Prelude.{bytes_eq, AllPairs, IfSome, flat_map}
 use Rattle.std.specs.List.{list_all}
 use Rattle.std.proofs.lemmas.Bool.{and_parts, leb-true, not-true}
-use Rattle.std.proofs.lemmas.List.Elements.{All-nil, All-cons, All-head, All-tail, All-filter, All-map, All-weaker, filter_passes}
+use Rattle.std.proofs.lemmas.Bool.Decides.{nat_tests}
+use Rattle.std.proofs.lemmas.List.Elements.{All-append, All-nil, All-cons, All-head, All-tail, All-filter, All-map, All-weaker, filter_passes}
 use Rattle.std.proofs.lemmas.List.Kept.{AllPairs-cons, AllPairs-filter}
 use Rattle.std.proofs.lemmas.Map.Entries.{All-lookup}
 use Rattle.geo_base.specs.TileView.{TileView, IsTile}
@@ -12,9 +13,9 @@ use Rattle.geo_text.specs.Words.{IsWord}
 use Rattle.geo_text.specs.Parts.{pieces, ranked}
 use Rattle.geo_text.proofs.Words.{tokens_are_words}
 use Rattle.feature_reader.specs.FeatureView.{IsFeature, IsPhraseText, IsRelevance}
-use Rattle.feature_reader.specs.Languages.{all_languages}
+use Rattle.feature_reader.specs.Languages.{bits_of, other_languages}
 use Rattle.feature_reader.specs.Tiles.{rising}
-use Rattle.feature_reader.specs.Feature.{phrases_of, same_phrase, distinct}
+use Rattle.feature_reader.specs.Feature.{phrases_of, all_phrases, same_phrase, distinct}
 use Rattle.feature_reader.specs.declared.phrase.Phrase.{Phrase}
 use Rattle.feature_reader.proofs.CollectedFacts.{same_itself}
 use Rattle.feature_reader.proofs.Rising.{rising-pairs, rising-length, rising_all, rising-zoom}
@@ -53,18 +54,27 @@ kept_words (tokens ∷ toks) all =
 abbrev pub IsPhrase : Phrase → Type 0
 IsPhrase p = IsPhraseText p.text × IsRelevance p.relev
 
--- a part with its relevance as a phrase
-abbrev phrase_of : List (List ℕ) × ℕ → Phrase
-phrase_of part = record { text = joined part.0; set = record { bits = all_languages }; relev = part.1 }
+module _ (set : ℕ) where
+  -- a part with its relevance as a phrase
+  abbrev part_phrase : List (List ℕ) × ℕ → Phrase
+  part_phrase part = record { text = joined part.0; set = record { bits = set }; relev = part.1 }
 
-part_is_phrase : (tokens : List (List ℕ)) (relev : ℕ) → AreSomeWords tokens → IsRelevance relev → IsPhrase (phrase_of (tokens, relev))
-part_is_phrase tokens relev some is = ((tokens, refl, some.0, some.1, some.2), is)
+  part_is_phrase : (tokens : List (List ℕ)) (relev : ℕ) → AreSomeWords tokens → IsRelevance relev → IsPhrase (part_phrase (tokens, relev))
+  part_is_phrase tokens relev some is = ((tokens, refl, some.0, some.1, some.2), is)
 
-ranked_phrases : (toks : List (List (List ℕ))) → All AreSomeWords toks → All IsPhrase (map phrase_of (ranked 100 toks))
-ranked_phrases [] all = All-nil IsPhrase
-ranked_phrases (first ∷ more) all =
-    All-cons IsPhrase (phrase_of (first, 100)) (map phrase_of (map (λ tokens. (tokens, 80)) more)) (part_is_phrase first 100 (All-head AreSomeWords first more all) (inr (inr (inr refl))))
-    (All-map IsPhrase phrase_of (map (λ tokens. (tokens, 80)) more) (All-map (λ part. IsPhrase (phrase_of part)) (λ tokens. (tokens, 80)) more (All-weaker AreSomeWords (λ tokens. IsPhrase (phrase_of (tokens, 80))) (λ tokens some. part_is_phrase tokens 80 some (inr (inr (inl refl)))) more (All-tail AreSomeWords first more all))))
+  ranked_phrases : (cap : ℕ) → IsRelevance (min cap 100) → IsRelevance (min cap 80) → (toks : List (List (List ℕ))) → All AreSomeWords toks → All IsPhrase (map part_phrase (ranked cap toks))
+  ranked_phrases cap first later [] all = All-nil IsPhrase
+  ranked_phrases cap first later (tokens ∷ more) all =
+      All-cons IsPhrase (part_phrase (tokens, min cap 100)) (map part_phrase (map (λ tokens. (tokens, min cap 80)) more)) (part_is_phrase tokens (min cap 100) (All-head AreSomeWords tokens more all) first)
+      (All-map IsPhrase part_phrase (map (λ tokens. (tokens, min cap 80)) more) (All-map (λ part. IsPhrase (part_phrase part)) (λ tokens. (tokens, min cap 80)) more (All-weaker AreSomeWords (λ tokens. IsPhrase (part_phrase (tokens, min cap 80))) (λ tokens some. part_is_phrase tokens (min cap 80) some later) more (All-tail AreSomeWords tokens more all))))
+
+-- a relevance that is at most a cap is one
+capped : (cap relev : ℕ) → IsRelevance cap → IsRelevance relev → IsRelevance (min cap relev)
+capped cap relev is known = by (nat_le cap relev) refl
+  where
+    by : (b : Bool) → nat_le cap relev ≡ b → IsRelevance (min cap relev)
+    by true e = let low = leb-true cap relev e in let same : cap ≡ min cap relev = omega (arith, low) in subst IsRelevance same is
+    by false e = let high : relev ≤ cap = grind (arith, nat_tests) in let same : relev ≡ min cap relev = omega (arith, high) in subst IsRelevance same known
 
 -- ---- distinct phrases
 
@@ -82,24 +92,48 @@ distinct_pairs (p ∷ ps) =
     (All-weaker (λ q. not (same_phrase p q) ≡ true) (λ q. p ≢ q) (other p) (filter (λ q. not (same_phrase p q)) (distinct ps)) (filter_passes (λ q. not (same_phrase p q)) (distinct ps)))
     (AllPairs-filter (λ p q. p ≢ q) (λ q. not (same_phrase p q)) (distinct ps) (distinct_pairs ps))
 
--- ---- the phrases of a text
+-- ---- the phrases of a feature
 
-phrases_are : (r : Replacements) (text : List ℕ) → AreWords r → All IsPhrase (distinct (phrases_of r 100 text all_languages))
-phrases_are r text words =
-    distinct_all IsPhrase (phrases_of r 100 text all_languages) (ranked_phrases _ (kept_words (map (λ piece. replaced r (tokens_of piece)) (pieces text)) (All-map (λ tokens. All IsWord tokens) (λ piece. replaced r (tokens_of piece)) (pieces text) (λ i d within. replaced_words r words (tokens_of _) (tokens_are_words _)))))
+text_phrases : (r : Replacements) (cap : ℕ) (text : List ℕ) (set : ℕ) → AreWords r → IsRelevance cap → All IsPhrase (phrases_of r cap text set)
+text_phrases r cap text set words is =
+    ranked_phrases set cap (capped cap 100 is (inr (inr (inr refl)))) (capped cap 80 is (inr (inr (inl refl)))) _ (kept_words (map (λ piece. replaced r (tokens_of piece)) (pieces text)) (All-map (λ tokens. All IsWord tokens) (λ piece. replaced r (tokens_of piece)) (pieces text) (λ i d within. replaced_words r words (tokens_of _) (tokens_are_words _))))
+
+own_phrases : (r : Replacements) (langs : List (List ℕ)) (cap : ℕ) (own : List (List ℕ × List ℕ)) → AreWords r → IsRelevance cap → All IsPhrase (flat_map (λ t. phrases_of r cap t.1 (bits_of langs t.0)) own)
+own_phrases r langs cap [] words is = All-nil IsPhrase
+own_phrases r langs cap (t ∷ own) words is =
+    All-append IsPhrase (phrases_of r cap t.1 (bits_of langs t.0)) (flat_map (λ t. phrases_of r cap t.1 (bits_of langs t.0)) own) (text_phrases r cap t.1 (bits_of langs t.0) words is) (own_phrases r langs cap own words is)
+
+phrases_are : (r : Replacements) (langs : List (List ℕ)) (cap : ℕ) (text : List ℕ) (own : List (List ℕ × List ℕ)) → AreWords r → IsRelevance cap → All IsPhrase (all_phrases r langs cap text own)
+phrases_are r langs cap text own words is =
+    let others : ℕ = other_languages langs (map (λ t. t.0) own) in
+    distinct_all IsPhrase (phrases_of r cap text others ++ flat_map (λ t. phrases_of r cap t.1 (bits_of langs t.0)) own) (All-append IsPhrase (phrases_of r cap text others) (flat_map (λ t. phrases_of r cap t.1 (bits_of langs t.0)) own) (text_phrases r cap text others words is) (own_phrases r langs cap own words is))
+
+-- what the type of a feature keeps of its phrases
+pub record AreFeaturePhrases (ps : List Phrase) : Type 0 where
+  pub texts : All (λ p. IsPhraseText p.text) ps
+  pub relevances : All (λ p. IsRelevance p.relev) ps
+  pub distinct : AllPairs (λ p q. p ≢ q) ps
+
+pub feature_phrases : (r : Replacements) (langs : List (List ℕ)) (cap : ℕ) (text : List ℕ) (own : List (List ℕ × List ℕ)) → AreWords r → IsRelevance cap → AreFeaturePhrases (all_phrases r langs cap text own)
+feature_phrases r langs cap text own words is =
+    let phrases = phrases_are r langs cap text own words is in
+    record {
+      texts = All-weaker IsPhrase (λ p. IsPhraseText p.text) (λ p is. is.0) (all_phrases r langs cap text own) phrases;
+      relevances = All-weaker IsPhrase (λ p. IsRelevance p.relev) (λ p is. is.1) (all_phrases r langs cap text own) phrases;
+      distinct = distinct_pairs (phrases_of r cap text (other_languages langs (map (λ t. t.0) own)) ++ flat_map (λ t. phrases_of r cap t.1 (bits_of langs t.0)) own);
+    }
 
 -- the parts make a feature
-pub is_feature : (id score zoom : ℕ) (r : Replacements) (text : List ℕ) (ts : List TileView) → id < 67108864 → score < 16 → AreWords r → list_all (λ t. t.z == zoom) ts ≡ true → All IsTile ts → 0 < length ts → length ts ≤ 4096
-    → IsFeature (record { id = id; score = score; phrases = distinct (phrases_of r 100 text all_languages); tiles = rising ts })
-is_feature id score zoom r text ts low level words all tiles some few =
+pub is_feature : (id score zoom : ℕ) (ps : List Phrase) (ts : List TileView) → id < 67108864 → score < 16 → AreFeaturePhrases ps → list_all (λ t. t.z == zoom) ts ≡ true → All IsTile ts → 0 < length ts → length ts ≤ 4096
+    → IsFeature (record { id = id; score = score; phrases = ps; tiles = rising ts })
+is_feature id score zoom ps ts low level phrases all tiles some few =
     let size = rising-length ts in
-    let phrases = phrases_are r text words in
     record {
       id = low;
       score = level;
-      texts = All-weaker IsPhrase (λ p. IsPhraseText p.text) (λ p is. is.0) (distinct (phrases_of r 100 text all_languages)) phrases;
-      relevances = All-weaker IsPhrase (λ p. IsRelevance p.relev) (λ p is. is.1) (distinct (phrases_of r 100 text all_languages)) phrases;
-      distinct = distinct_pairs (phrases_of r 100 text all_languages);
+      texts = phrases.texts;
+      relevances = phrases.relevances;
+      distinct = phrases.distinct;
       some = omega (arith, size, some);
       few = omega (arith, size, few);
       tiles = rising_all IsTile ts tiles;

@@ -1,5 +1,5 @@
 -- Worked features, computed from the definitions.
-use Rattle.std.proofs.Common.{◌≡◌, ◌∷◌, [], refl, Ok, Err}
+use Rattle.std.proofs.Common.{◌≡◌, ◌-◌, ◌∷◌, [], refl, Ok, Err}
 use Rattle.std.specs.Prelude.{codes}
 use Rattle.std.specs.Str.{chars, is_utf8}
 use Rattle.std.specs.Char.{encode_utf8}
@@ -7,8 +7,8 @@ use Rattle.serde_json.proofs.OnLiterals.{serde_json_on_literals}
 use Rattle.unicode_normalization.proofs.Computing.{unicode_normalization}
 use Rattle.caseless.proofs.Computing.{caseless}
 use Rattle.ucd_category.proofs.Computing.{ucd_category}
-use Rattle.feature_reader.specs.Examples.{read, new_york_text, new_york, named}
-use Rattle.feature_reader.specs.Collected.{phrase_at}
+use Rattle.feature_reader.specs.Languages.{all_languages}
+use Rattle.feature_reader.specs.Examples.{read, read_with_german, phrase_in, phrase_at, new_york_text, new_york, named}
 use Rattle.feature_reader.specs.declared.feature.FeatureFault.TheVariants as fault
 
 pub no_id : read (codes "{\"properties\":{}}") ≡ Err fault.Id
@@ -62,3 +62,19 @@ empty_part = refl
 pub repeated_part : read (codes "{\"id\":1,\"properties\":{\"carmen:text\":\"a,a,a\",\"carmen:zxy\":[\"6/0/0\"]}}") ≡ Ok (named (phrase_at 100 (codes "a") ∷ phrase_at 80 (codes "a") ∷ []))
 unfolding serde_json_on_literals chars is_utf8 encode_utf8 unicode_normalization caseless ucd_category
 repeated_part = refl
+
+pub listed_language : read_with_german (codes "{\"id\":1,\"properties\":{\"carmen:text\":\"a\",\"carmen:text_de\":\"b\",\"carmen:zxy\":[\"6/0/0\"]}}") ≡ Ok (named (phrase_in (all_languages - 1) 100 (codes "a") ∷ phrase_in 1 100 (codes "b") ∷ []))
+unfolding serde_json_on_literals chars is_utf8 encode_utf8 unicode_normalization caseless ucd_category
+listed_language = refl
+
+pub unlisted_language : read (codes "{\"id\":1,\"properties\":{\"carmen:text\":\"a\",\"carmen:text_de\":\"b\",\"carmen:zxy\":[\"6/0/0\"]}}") ≡ Ok (named (phrase_at 100 (codes "a") ∷ phrase_in 0 100 (codes "b") ∷ []))
+unfolding serde_json_on_literals chars is_utf8 encode_utf8 unicode_normalization caseless ucd_category
+unlisted_language = refl
+
+pub broken_language : read (codes "{\"id\":1,\"properties\":{\"carmen:text\":\"a\",\"carmen:text_de\":1}}") ≡ Err fault.Text
+unfolding serde_json_on_literals chars is_utf8 encode_utf8
+broken_language = refl
+
+pub low_relevance : read (codes "{\"id\":1,\"properties\":{\"carmen:text\":\"a,b\",\"carmen:zxy\":[\"6/0/0\"],\"carmen:relev\":40}}") ≡ Ok (named (phrase_at 40 (codes "a") ∷ phrase_at 40 (codes "b") ∷ []))
+unfolding serde_json_on_literals chars is_utf8 encode_utf8 unicode_normalization caseless ucd_category
+low_relevance = refl

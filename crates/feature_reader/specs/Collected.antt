@@ -1,34 +1,65 @@
--- For private contracts alone: the phrases of a text in every language, collected part after part.
-use Rattle.std.specs.Prelude.{◌≡◌, ℕ, List, [], ◌∷◌, ◌++◌, if◌then◌else◌, String}
+-- For private contracts alone: what is made of the texts in languages, member after member, and the phrases collected part after part.
+use denote.Ref.{Bor}
+use Rattle.std.specs.Prelude.{◌≡◌, ℕ, ◌-◌, List, [], ◌∷◌, ◌++◌, min, fold, if◌then◌else◌, Option, Some, None, Result, Ok, Err, string_bytes}
 use Rattle.std.specs.List.{list_any}
-use Rattle.std.specs.BTreeSet.{BTreeSet, contains_text}
-use Rattle.std.specs.declared.alloc.Global.{Global}
-use Rattle.geo_text.specs.Tokens.{joined, are_some_tokens}
-use Rattle.feature_reader.specs.Languages.{all_languages}
-use Rattle.feature_reader.specs.Feature.{same_phrase}
+use Rattle.std.specs.BTreeSet.{BTreeSet, contains}
+use Rattle.std.specs.String.{string_cmp}
+use Rattle.std.specs.Ordering.{nat_cmp, ordering_then}
+use Rattle.std.specs.declared.cmp.Ordering.{Ordering}
+use Rattle.serde_json.specs.Data.{Data, Members, no_members}
+use Rattle.serde_json.specs.Data as json
+use Rattle.geo_text.specs.Tokens.{Replacements, joined, are_some_tokens}
+use Rattle.geo_layer.specs.Json.{present}
+use Rattle.feature_reader.specs.Languages.{bits_of}
+use Rattle.feature_reader.specs.Feature.{text_code, own_text, phrases_of, same_phrase}
 use Rattle.feature_reader.specs.declared.phrase.Phrase.{Phrase}
+use Rattle.feature_reader.specs.declared.text_phrases.PhraseKey.{PhraseKey}
+use Rattle.feature_reader.specs.declared.feature.FeatureFault.{FeatureFault}
 
--- a text in every language
-abbrev pub phrase_at : ℕ → List ℕ → Phrase
-phrase_at relev text = record { text = text; set = record { bits = all_languages }; relev = relev }
+-- the text in a language that a member is, or its fault
+abbrev pub own_text_of : List ℕ → Data → Result (List (List ℕ × List ℕ)) FeatureFault
+own_text_of name d = own_text (text_code name) (present (Some d))
 
--- the phrase of a text behind these: it has relevance 100 where it is the first, else 80
-abbrev pub next_phrase : List Phrase → List ℕ → Phrase
-next_phrase [] text = phrase_at 100 text
-next_phrase (p ∷ ps) text = phrase_at 80 text
+-- a code and a text, where there are some, as a list
+abbrev pub list_of_text : Option (List ℕ × Bor (List ℕ)) → List (List ℕ × List ℕ)
+list_of_text None = []
+list_of_text (Some own) = (own.0, own.1.now) ∷ []
+
+-- what f makes of x by these texts; x stays at a fault
+abbrev pub after_texts : {X : Type 0} → (X → List ℕ × List ℕ → X) → X → Result (List (List ℕ × List ℕ)) FeatureFault → X
+after_texts f x (Ok own) = fold f x own
+after_texts f x (Err e) = x
+
+-- what f makes of x by the texts in languages of the members
+abbrev pub after_members : {X : Type 0} → (X → List ℕ × List ℕ → X) → X → Members → X
+after_members f x no_members = x
+after_members f x (json.member name d members) = after_members f (after_texts f x (own_text_of name d)) members
+
+-- the languages without that of a text
+abbrev pub without_language : List (List ℕ) → ℕ → List ℕ × List ℕ → ℕ
+without_language langs set own = set - bits_of langs own.0
 
 -- the phrases with one more, unless it stands among them
 abbrev pub with_phrase : List Phrase → Phrase → List Phrase
 with_phrase ps p = if list_any (same_phrase p) ps then ps else ps ++ p ∷ []
 
--- the phrases with that of one more text
-abbrev pub with_text : List Phrase → List ℕ → List Phrase
-with_text ps text = with_phrase ps (next_phrase ps text)
+-- the phrases with those of a text in a language
+abbrev pub with_own : Replacements → List (List ℕ) → ℕ → List Phrase → List ℕ × List ℕ → List Phrase
+with_own replacements langs cap ps own = fold with_phrase ps (phrases_of replacements cap own.1 (bits_of langs own.0))
 
--- the phrases with that of one more piece of a text, which is a part where it has 1 to 20 tokens
-abbrev pub with_piece : List Phrase → List (List ℕ) → List Phrase
-with_piece ps tokens = if are_some_tokens tokens then with_text ps (joined tokens) else ps
+-- the phrases so far and the relevance of the next part, with one more piece of a text, which is a part where it has 1 to 20 tokens
+abbrev pub with_piece : ℕ → ℕ → List Phrase × ℕ → List (List ℕ) → List Phrase × ℕ
+with_piece set cap so_far tokens =
+    if are_some_tokens tokens then (with_phrase so_far.0 (record { text = joined tokens; set = record { bits = set }; relev = so_far.1 }), min cap 80) else so_far
 
--- the texts are those of the phrases of relevance 80
-abbrev pub AreLater : BTreeSet (String Global) → List Phrase → Type 0
-AreLater texts ps = (q : List ℕ) → contains_text texts q ≡ list_any (same_phrase (phrase_at 80 q)) ps
+-- the phrase that is looked up by a key
+abbrev pub phrase_of_key : PhraseKey → Phrase
+phrase_of_key k = record { text = string_bytes k.text; set = record { bits = k.bits }; relev = k.relev }
+
+-- the order of the keys
+abbrev pub key_cmp : PhraseKey → PhraseKey → Ordering
+key_cmp a b = ordering_then (string_cmp a.text b.text) (ordering_then (nat_cmp a.bits b.bits) (nat_cmp a.relev b.relev))
+
+-- the keys are those of the phrases
+abbrev pub AreSeen : BTreeSet PhraseKey → List Phrase → Type 0
+AreSeen seen ps = (k : PhraseKey) → contains key_cmp seen k ≡ list_any (same_phrase (phrase_of_key k)) ps

@@ -15,6 +15,18 @@ place = record { name = codes "place"; zoom = 6; stack = None; scoremax = 15; to
 abbrev pub read : List ℕ → Result FeatureView FeatureFault
 read text = feature_of place [] text
 
+-- the same where German is the only listed language
+abbrev pub read_with_german : List ℕ → Result FeatureView FeatureFault
+read_with_german text = feature_of place (codes "de" ∷ []) text
+
+-- a text in a set of languages
+abbrev pub phrase_in : ℕ → ℕ → List ℕ → Phrase
+phrase_in set relev text = record { text = text; set = record { bits = set }; relev = relev }
+
+-- a text in every language
+abbrev pub phrase_at : ℕ → List ℕ → Phrase
+phrase_at relev text = phrase_in all_languages relev text
+
 -- New York, with one of its tiles listed twice
 abbrev pub new_york_text : List ℕ
 new_york_text = codes "{\"id\":7,\"properties\":{\"carmen:text\":\"New York\",\"carmen:zxy\":[\"6/33/32\",\"6/32/32\",\"6/33/32\"]}}"

@@ -2,7 +2,6 @@ pub mod Tiles
 pub mod Languages
 pub mod FeatureView
 pub mod Feature
-pub mod Simple
 pub mod Table
 pub mod Examples
 -- for private contracts alone

@@ -57,7 +57,7 @@ impl Model for Feature {
 }
 
 impl Feature {
-    /// The feature of these parts, which keep what the type of a feature keeps.
+    /// The feature of these parts, which have to make one (`IsFeature`).
     pub fn from_parts(id: u32, score: u8, phrases: Phrases, tiles: Tiles) -> Feature
         requires { IsFeature (record { id = id; score = score; phrases = phrases; tiles = tiles }) }
         ensures { result ≡ record { id = id; score = score; phrases = phrases; tiles = tiles } }

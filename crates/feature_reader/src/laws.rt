@@ -1,8 +1,8 @@
 //! Worked features and levels, computed from the definitions, as the contracts of functions that do nothing.
 
-ghost use Rattle.std.specs.Prelude.{◌≡◌, ◌∷◌, [], pos, negsuc, codes, Ok, Err};
-ghost use Rattle.feature_reader.specs.Collected.{phrase_at};
-ghost use Rattle.feature_reader.specs.Examples.{read, new_york_text, new_york, named};
+ghost use Rattle.std.specs.Prelude.{◌≡◌, ◌-◌, ◌∷◌, [], pos, negsuc, codes, Ok, Err};
+ghost use Rattle.feature_reader.specs.Languages.{all_languages};
+ghost use Rattle.feature_reader.specs.Examples.{read, read_with_german, phrase_in, phrase_at, new_york_text, new_york, named};
 ghost use Rattle.feature_reader.specs.Feature.{level};
 ghost use Rattle.feature_reader.specs.declared.feature.FeatureFault.TheVariants as fault;
 
@@ -21,6 +21,10 @@ pub fn worked_features()
     ensures two_parts { read (codes "{\"id\":1,\"properties\":{\"carmen:text\":\"New York,NYC\",\"carmen:zxy\":[\"6/0/0\"]}}") ≡ Ok (named (phrase_at 100 (codes "new york") ∷ phrase_at 80 (codes "nyc") ∷ [])) }
     ensures empty_part { read (codes "{\"id\":1,\"properties\":{\"carmen:text\":\"a,,b\",\"carmen:zxy\":[\"6/0/0\"]}}") ≡ Ok (named (phrase_at 100 (codes "a") ∷ phrase_at 80 (codes "b") ∷ [])) }
     ensures repeated_part { read (codes "{\"id\":1,\"properties\":{\"carmen:text\":\"a,a,a\",\"carmen:zxy\":[\"6/0/0\"]}}") ≡ Ok (named (phrase_at 100 (codes "a") ∷ phrase_at 80 (codes "a") ∷ [])) }
+    ensures listed_language { read_with_german (codes "{\"id\":1,\"properties\":{\"carmen:text\":\"a\",\"carmen:text_de\":\"b\",\"carmen:zxy\":[\"6/0/0\"]}}") ≡ Ok (named (phrase_in (all_languages - 1) 100 (codes "a") ∷ phrase_in 1 100 (codes "b") ∷ [])) }
+    ensures unlisted_language { read (codes "{\"id\":1,\"properties\":{\"carmen:text\":\"a\",\"carmen:text_de\":\"b\",\"carmen:zxy\":[\"6/0/0\"]}}") ≡ Ok (named (phrase_at 100 (codes "a") ∷ phrase_in 0 100 (codes "b") ∷ [])) }
+    ensures broken_language { read (codes "{\"id\":1,\"properties\":{\"carmen:text\":\"a\",\"carmen:text_de\":1}}") ≡ Err fault.Text }
+    ensures low_relevance { read (codes "{\"id\":1,\"properties\":{\"carmen:text\":\"a,b\",\"carmen:zxy\":[\"6/0/0\"],\"carmen:relev\":40}}") ≡ Ok (named (phrase_at 40 (codes "a") ∷ phrase_at 40 (codes "b") ∷ [])) }
 {}
 
 /// Levels of scores where 1,000 is the highest.

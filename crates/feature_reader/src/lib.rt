@@ -3,10 +3,11 @@
 
 pub mod feature;
 pub mod laws;
+mod own_texts;
 pub mod phrase;
 pub mod read_feature;
+mod relevance;
 mod score;
-pub mod simple;
 pub mod table;
 pub mod taker;
 mod text_phrases;

@@ -1,24 +1,25 @@
 //! The feature that a JSON value or the bytes of a JSON text stand for.
 
-ghost use Rattle.std.specs.Prelude.{◌≡◌, ◌==◌, ◌<◌, ◌≤◌, true, length, map, codes, Some, Ok, Err, IfOk, IfSome, IsAscii, All, option_map, option_and_then};
+ghost use Rattle.std.specs.Prelude.{◌≡◌, ◌≢◌, ◌==◌, ◌<◌, ◌≤◌, true, length, map, codes, Some, None, Ok, Err, IfOk, MatchOption, All, AllPairs, option_map, option_and_then};
 ghost use Rattle.std.specs.List.{list_all};
 ghost use Rattle.serde_json.specs.Data.{object};
-ghost use Rattle.serde_json.specs.View.{view};
+ghost use Rattle.serde_json.specs.View.{view, members_view};
 ghost use Rattle.serde_json.specs.Find.{as_str};
 ghost use Rattle.geo_base.specs.declared.refusal.Refused.TheVariants as refused;
 ghost use Rattle.geo_base.specs.TileView.{IsTile};
 ghost use Rattle.geo_text.specs.Numbers.{below};
-ghost use Rattle.geo_text.specs.Tokens.{AreWords};
-ghost use Rattle.geo_layer.specs.Json.{data_of, member, natural_of, each_of};
-ghost use Rattle.feature_reader.specs.Languages.{all_languages};
+ghost use Rattle.geo_layer.specs.Json.{member, natural_of, each_of};
+ghost use Rattle.feature_reader.specs.FeatureView.{IsPhraseText, IsRelevance};
 ghost use Rattle.feature_reader.specs.Tiles.{tile_of, some_tiles, tiles_of, rising};
-ghost use Rattle.feature_reader.specs.Feature.{feature_of, feature_of_data, needs_no_room, properties_of, phrases_of, distinct};
-ghost use Rattle.feature_reader.specs.Simple.{is_simple_feature};
+ghost use Rattle.feature_reader.specs.Feature.{feature_of, feature_of_data, needs_no_room, properties_of};
 ghost use Rattle.feature_reader.specs.declared.feature.FeatureFault.{FeatureFault};
 
 use crate::feature::{Feature, FeatureFault};
+use crate::own_texts::are_fair;
+use crate::phrase::Phrases;
+use crate::relevance::cap_in;
 use crate::score::level_in;
-use crate::text_phrases::phrases_of;
+use crate::text_phrases::all_phrases;
 use crate::tile_text::read_tile;
 use crate::tiles::Tiles;
 use geo_base::refusal::{Memory, Refused};
@@ -26,20 +27,17 @@ use geo_base::tile::Tile;
 use geo_layer::json::read_json;
 use geo_layer::langs::Langs;
 use geo_layer::layer::Layer;
-use geo_text::token_map::TokenMap;
 use serde_json::Value;
+use serde_json::value::Map;
 use std::alloc::Global;
 
-/// The properties of the object that stands for a feature, where they are an object.
-fn properties(value: &Value) -> Option<&Value>
-    ensures { option_map (λ p. view p.now) result ≡ option_map object (properties_of (view value.now)) }
+/// The properties of the object that stands for a feature, and their members, where they are an object.
+fn properties(value: &Value) -> Option<(&Value, &Map<String, Value>)>
+    ensures { MatchOption result (properties_of (view value.now) ≡ None) (λ p. (properties_of (view value.now) ≡ Some (members_view p.1.now.entries)) × (view p.0.now ≡ object (members_view p.1.now.entries))) }
 {
     let properties = value.get("properties")?;
-    if properties.is_object() {
-        Some(properties)
-    } else {
-        None
-    }
+    let members = properties.as_object()?;
+    Some((properties, members))
 }
 
 /// The id of a feature.
@@ -124,45 +122,38 @@ fn rise(tiles: &mut Vec<Tile>, zoom: u8)
     tiles.dedup();
 }
 
-/// The feature of these parts, whose phrases are those of an ASCII text in every language.
-fn made(
-    alloc: Global,
-    id: u32,
-    score: u8,
-    text: &str,
-    replace: &TokenMap,
-    tiles: Vec<Tile>,
-    zoom: u8,
-) -> Result<Feature, Memory>
+/// The feature of these parts.
+fn made(id: u32, score: u8, phrases: Phrases, tiles: Vec<Tile>, zoom: u8) -> Feature
     requires id { id < 67108864 }
     requires score { score < 16 }
-    requires text { IsAscii text.now }
-    requires words { AreWords replace.now }
+    requires texts { All (λ p. IsPhraseText p.text) phrases }
+    requires relevances { All (λ p. IsRelevance p.relev) phrases }
+    requires distinct { AllPairs (λ p q. p ≢ q) phrases }
     requires zoom { list_all (λ t. t.z == zoom) tiles.items ≡ true }
     requires tiles { All IsTile tiles.items }
     requires some { 0 < length tiles.items }
     requires few { length tiles.items ≤ 4096 }
-    ensures { IfOk result (λ f. f ≡ record { id = id; score = score; phrases = distinct (phrases_of replace.now 100 text.now all_languages); tiles = rising tiles.items }) }
+    ensures { result ≡ record { id = id; score = score; phrases = phrases; tiles = rising tiles.items } }
 {
     let mut tiles = tiles;
     rise(&mut tiles, zoom);
-    let phrases = phrases_of(alloc, text, replace)?;
-    Ok(Feature::from_parts(id, score, phrases, Tiles::from_vec(tiles)))
+    Feature::from_parts(id, score, phrases, Tiles::from_vec(tiles))
 }
 
 /// The feature of the layer that a value stands for, or the first of its faults in the order
-/// `Json`, `Id`, `Text`, `Zxy`, `Zoom`, `Score`, `Relev`: the properties, the id, the text and the
-/// tiles, of which all are read before their zoom is compared, and then the score. Members that
-/// are null count as absent, of equal keys the last value stays, and other members play no part.
+/// `Json`, `Id`, `Text`, `Zxy`, `Zoom`, `Score`, `Relev`: the properties, the id, the texts, the
+/// tiles, of which all are read before their zoom is compared, the score, and the relevance. Members
+/// that are null count as absent, of equal keys the last value stays, and other members play no part.
 ///
-/// The text has a phrase for each of its pieces between commas that has 1 to 20 tokens, each
-/// replaced where the layer replaces it; the first has relevance 100 and the later ones 80, and
-/// each phrase stands once, at its first place. The level is 15 times the score's part of the
-/// layer's highest score, rounded up, at most 15, and 0 where the score is absent or below 0. Of
-/// the tiles each stands once, by column and then row; the limit of 4,096 counts repeats too.
-///
-/// A simple value has no texts by language, so the listed languages play no part. Whether a value
-/// is simple tells [`is_simple_feature`](crate::simple::is_simple_feature).
+/// A text has a phrase for each of its pieces between commas that has 1 to 20 tokens, each
+/// replaced where the layer replaces it; the first has relevance 100 and the later ones 80, each at
+/// most `carmen:relev`. The texts are `carmen:text`, which speaks for all languages but the listed
+/// ones that have a text of their own, and the texts in languages `carmen:text_CODE` in the order of
+/// the bytes of their names, each for its language alone, or for none where the code isn't listed.
+/// Of all of them each phrase stands once, at its first place. The level is 15 times the score's
+/// part of the layer's highest score, rounded up, at most 15, and 0 where the score is absent or
+/// below 0. Of the tiles each stands once, by column and then row; the limit of 4,096 counts repeats
+/// too.
 ///
 /// Memory is asked for by the tiles, the tokens and the phrases, and may be refused in place of
 /// any answer but the faults `Json`, `Id` and `Text`, which are found before.
@@ -172,12 +163,11 @@ pub fn feature_of_value(
     langs: &Langs,
     value: &Value,
 ) -> Result<Feature, Refused<FeatureFault>>
-    requires { is_simple_feature (view value.now) ≡ true }
     ensures feature { IfOk result (λ f. feature_of_data layer.now langs.now (view value.now) ≡ Ok f) }
     ensures fault { (e : FeatureFault) → result ≡ Err (refused.Fault e) → feature_of_data layer.now langs.now (view value.now) ≡ Err e }
     ensures outright { (e : FeatureFault) → needs_no_room e ≡ true → feature_of_data layer.now langs.now (view value.now) ≡ Err e → result ≡ Err (refused.Fault e) }
 {
-    let Some(properties) = properties(value) else {
+    let Some((properties, members)) = properties(value) else {
         return Err(Refused::Fault(FeatureFault::Json));
     };
     let Some(id) = id_of(value) else {
@@ -186,6 +176,9 @@ pub fn feature_of_value(
     let Some(text) = text_of(properties) else {
         return Err(Refused::Fault(FeatureFault::Text));
     };
+    if !are_fair(members) {
+        return Err(Refused::Fault(FeatureFault::Text));
+    }
     let Some(tiles) = tiles_of(alloc, properties)? else {
         return Err(Refused::Fault(FeatureFault::Zxy));
     };
@@ -196,7 +189,11 @@ pub fn feature_of_value(
     let Some(score) = level_in(properties, layer.scoremax()) else {
         return Err(Refused::Fault(FeatureFault::Score));
     };
-    Ok(made(alloc, id, score, text, layer.tokens(), tiles, zoom)?)
+    let Some(cap) = cap_in(properties) else {
+        return Err(Refused::Fault(FeatureFault::Relev));
+    };
+    let phrases = all_phrases(alloc, langs, text, members, layer.tokens(), cap)?;
+    Ok(made(id, score, phrases, tiles, zoom))
 }
 
 /// The feature of the layer that the bytes of a JSON text stand for, or the first of its faults:
@@ -209,7 +206,6 @@ pub fn read_feature(
     langs: &Langs,
     text: &[u8],
 ) -> Result<Feature, Refused<FeatureFault>>
-    requires { IfSome (data_of text.now) (λ d. is_simple_feature d ≡ true) }
     ensures feature { IfOk result (λ f. feature_of layer.now langs.now text.now ≡ Ok f) }
     ensures fault { (e : FeatureFault) → result ≡ Err (refused.Fault e) → feature_of layer.now langs.now text.now ≡ Err e }
 {

@@ -1,6 +1,6 @@
 -- Going over a list whose values may each be refused.
-use Rattle.std.proofs.Common.{◌≡◌, ◌∙◌, ◌+◌, ◌<◌, ℕ, Bool, true, suc, List, [], ◌∷◌, ◌++◌, length, get_or, map, drop, Option, None, Some, refl, sym, ap, append_assoc, drop-cons, add-one}
-use Rattle.std.specs.Prelude.{option_and_then}
+use Rattle.std.proofs.Common.{◌≡◌, ◌∙◌, ◌+◌, ◌<◌, ℕ, Bool, true, false, suc, List, [], ◌∷◌, ◌++◌, length, get_or, map, drop, Option, None, Some, refl, sym, ap, append_assoc, drop-cons, add-one}
+use Rattle.std.specs.Prelude.{option_and_then, if◌then◌else◌}
 use Rattle.std.specs.List.{list_all}
 use Rattle.serde_json.specs.Data.{Data}
 use Rattle.serde_json.specs.View.{items_of}
@@ -57,3 +57,8 @@ each_of-passes f p h (x ∷ xs) ys is =
         | Some zs ↦ λ q e. let all : y ∷ zs ≡ ys = cc in ap (list_all p) (sym all) ∙ rw (h x y first, each_of-passes f p h xs zs q) refl
       ] refl e
     ] refl is
+
+-- what is given under a test
+pub given : {A : Type 0} (b : Bool) (x y : A) → (if b then Some x else None) ≡ Some y → (b ≡ true) × (x ≡ y)
+given true x y e = (refl, cc)
+given false x y e = absurd (cc e)

@@ -1,8 +1,8 @@
 -- What the parts of a layer keep, and one layer more.
-use Rattle.std.proofs.Common.{◌≡◌, ◌∙◌, ◌<◌, ◌≤◌, ℕ, Bool, true, false, List, [], ◌∷◌, ◌++◌, length, map, nat_le, nat_lt, refl, sym, ap, subst, arith, length-append, All, Option, None, Some, Ok, Err}
-use Rattle.std.specs.Prelude.{option_and_then, option_map, if◌then◌else◌, IfSome}
+use Rattle.std.proofs.Common.{◌≡◌, ◌∙◌, ◌<◌, ◌≤◌, ℕ, true, false, List, [], ◌∷◌, ◌++◌, length, map, nat_le, nat_lt, ◌&&◌, refl, sym, ap, subst, arith, length-append, All, Option, None, Some, Ok, Err}
+use Rattle.std.specs.Prelude.{option_and_then, option_map, if◌then◌else◌, Result, IfSome}
 use Rattle.std.specs.List.{AllPairs, fold}
-use Rattle.std.proofs.lemmas.Bool.{leb-true, ltb-true, le-leb, lt-leb}
+use Rattle.std.proofs.lemmas.Bool.{and_parts, leb-true, ltb-true, le-leb, lt-leb}
 use Rattle.std.proofs.lemmas.List.{length-map}
 use Rattle.std.proofs.lemmas.Option.{option_and_then_some}
 use Rattle.std.proofs.lemmas.List.Elements.{All-nil, All-cons, All-head, All-tail, All-push}
@@ -13,11 +13,14 @@ use Rattle.serde_json.specs.Find.{as_str, as_array}
 use Rattle.serde_json.specs.View.{view, items_view}
 use Rattle.serde_json.specs.declared.value.Value.{Value}
 use Rattle.geo_text.specs.Numbers.{below}
-use Rattle.geo_layer.specs.Json.{each_of, list_of, optional}
+use Rattle.geo_text.specs.Tokens.{Replacements}
+use Rattle.geo_layer.specs.Json.{each_of, list_of, natural_of, optional}
 use Rattle.geo_layer.specs.Layer.{LayerView, IsLayer, AreLayers, is_name, are_stack_words}
-use Rattle.geo_layer.specs.LayerText.{last_zoom, name_of, stack_of}
+use Rattle.geo_layer.specs.LayerText.{last_zoom, name_of, stack_of, replacements_of, scale_of}
+use Rattle.geo_layer.specs.declared.layer.LayerFault.{LayerFault}
 use Rattle.geo_layer.specs.declared.layer.LayerFault.TheVariants as fault
-use Rattle.geo_layer.proofs.Each.{list_of-items_of, each_of-map, each_of-length, each_of-passes}
+use Rattle.geo_layer.proofs.Each.{list_of-items_of, each_of-map, each_of-length, each_of-passes, given}
+use Rattle.geo_layer.proofs.TokenFacts.{few_tokens}
 
 -- no zoom of the rest is below n, so neither is the last
 last_from : (n z : ℕ) (layers : List LayerView) → n ≤ z → All (λ b. n ≤ b.zoom) layers → n ≤ fold (λ z layer. layer.zoom) z layers
@@ -43,11 +46,6 @@ one_layer layers layer are is few rising =
     }
 
 -- ---- the parts of a layer
-
--- what is given under a test
-given : {A : Type 0} (b : Bool) (x y : A) → (if b then Some x else None) ≡ Some y → (b ≡ true) × (x ≡ y)
-given true x y e = (refl, cc)
-given false x y e = absurd (cc e)
 
 name_of-is : (d : Data) (name : List ℕ) → name_of d ≡ Some name → is_name name ≡ true
 name_of-is d name is =
@@ -98,11 +96,30 @@ stack_of-is d stack is =
       | false ↦ λ few f. absurd (cc f)
     ] refl e)
 
+scale_of-is : (d : Data) (n : ℕ) → scale_of d ≡ Some n → (1 ≤ n) × (n ≤ 1000000000)
+scale_of-is d n is =
+    option_and_then_some (λ n. if nat_le 1 n && nat_le n 1000000000 then Some n else None) (natural_of d) n is
+    (λ x _ e. let both = given (nat_le 1 x && nat_le x 1000000000) x n e in
+    let parts = and_parts (nat_le 1 x) (nat_le x 1000000000) both.0 in
+    subst (λ n. (1 ≤ n) × (n ≤ 1000000000)) both.1 (leb-true 1 x parts.0, leb-true x 1000000000 parts.1))
+
+-- what holds of the value for an absent one, and of each that may be read, holds of what was read
+optional-is : {B : Type 0} (P : B → Type 0) (form : Data → Option B) (default : B) (e : LayerFault) → P default → ((d : Data) (x : B) → form d ≡ Some x → P x) → (d : Option Data) (x : B) → Ok x ≡ optional form default e d → P x
+optional-is P form default e absent each None x is = let same : default ≡ x = cc in subst P same absent
+optional-is {B = B} P form default e absent each (Some d) x is = by (form d) refl is
+  where
+    by : (o : Option B) → form d ≡ o → ◌≡◌ {A = Result B LayerFault} (Ok x) (elim o [ None ↦ Err e | Some y ↦ Ok y ]) → P x
+    by None q i = absurd (cc i)
+    by (Some y) q i = let same : y ≡ x = cc in subst P same (each d y q)
+
 -- what was read as a stack is one
 pub stack-is : (d : Option Data) (stack : Option (List (List ℕ))) → Ok stack ≡ optional stack_of None fault.Stack d → IfSome stack (λ words. are_stack_words words ≡ true)
-stack-is None stack is = let none : None ≡ stack = cc in subst (λ s. IfSome s (λ words. are_stack_words words ≡ true)) none tt
-stack-is (Some d) stack is =
-    elim (stack_of d) as (λ o. stack_of d ≡ o → Ok stack ≡ elim o [ None ↦ Err fault.Stack | Some x ↦ Ok x ] → IfSome stack (λ words. are_stack_words words ≡ true)) [
-      | None ↦ λ q e. absurd (cc e)
-      | Some s ↦ λ q e. let same : s ≡ stack = cc in subst (λ s. IfSome s (λ words. are_stack_words words ≡ true)) same (stack_of-is d s q)
-    ] refl is
+stack-is d stack is = optional-is (λ s. IfSome s (λ words. are_stack_words words ≡ true)) stack_of None fault.Stack tt stack_of-is d stack is
+
+-- what was read as tokens is no more than 4,096
+pub tokens-few : (d : Option Data) (tokens : Replacements) → Ok tokens ≡ optional replacements_of [] fault.Tokens d → length tokens ≤ 4096
+tokens-few d tokens is = optional-is (λ tokens. length tokens ≤ 4096) replacements_of [] fault.Tokens (omega arith) few_tokens d tokens is
+
+-- what was read as a scale is one
+pub scale-is : (d : Option Data) (n : ℕ) → Ok n ≡ optional scale_of 15 fault.ScoreMax d → (1 ≤ n) × (n ≤ 1000000000)
+scale-is d n is = optional-is (λ n. (1 ≤ n) × (n ≤ 1000000000)) scale_of 15 fault.ScoreMax (omega arith, omega arith) scale_of-is d n is

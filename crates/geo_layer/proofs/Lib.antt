@@ -3,3 +3,4 @@ pub mod SameBytes
 mod CodeFacts
 mod Compatible
 mod LayerFacts
+mod TokenFacts

@@ -1,5 +1,5 @@
 -- Layers that serve as examples.
-use Rattle.std.specs.Prelude.{ℕ, List, [], ◌∷◌, codes, replicate, Some, None}
+use Rattle.std.specs.Prelude.{ℕ, List, [], ◌∷◌, codes, encode_utf8_all, replicate, Some, None}
 use Rattle.geo_layer.specs.Layer.{LayerView}
 
 -- a layer that may be stacked with every other
@@ -25,3 +25,11 @@ street_text = codes "{\"name\":\"street\",\"zoom\":14,\"scoremax\":100,\"tokens\
 -- the layer that it stands for
 abbrev pub street : LayerView
 street = record { name = codes "street"; zoom = 14; stack = None; scoremax = 100; tokens = (codes "av", codes "avenue") ∷ (codes "st", codes "street") ∷ [] }
+
+-- a text of a layer that replaces a token of Greek, with its accents and its last sigma
+abbrev pub greek_text : List ℕ
+greek_text = encode_utf8_all (codes "{\"name\":\"street\",\"zoom\":14,\"tokens\":{\"ΟΔ.\":\"Οδός\"}}")
+
+-- the layer that it stands for
+abbrev pub greek : LayerView
+greek = record { name = codes "street"; zoom = 14; stack = None; scoremax = 15; tokens = (encode_utf8_all (codes "οδ"), encode_utf8_all (codes "οδοσ")) ∷ [] }

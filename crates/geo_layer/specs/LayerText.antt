@@ -1,5 +1,5 @@
 -- The layer that a JSON text stands for, or its first fault.
-use Rattle.std.specs.Prelude.{ℕ, Bool, true, false, List, [], ◌∷◌, ◌&&◌, not, nat_lt, nat_le, length, codes, fold, map, if◌then◌else◌, Option, Some, None, option_and_then, option_map, is_some, Result, Ok, ok_or}
+use Rattle.std.specs.Prelude.{ℕ, Bool, true, false, List, [], ◌∷◌, ◌&&◌, nat_lt, nat_le, length, codes, fold, map, if◌then◌else◌, Option, Some, None, option_and_then, option_map, Result, Ok, ok_or}
 use Rattle.std.specs.Cmp.Lexicographic.{slice_cmp}
 use Rattle.std.specs.Ordering.{match_ordering, nat_cmp}
 use Rattle.serde_json.specs.Data.{Data, Members, no_members}
@@ -41,9 +41,13 @@ abbrev pub with_pair : List ℕ × List ℕ → Replacements → Replacements
 with_pair p [] = p ∷ []
 with_pair p (q ∷ qs) = match_ordering (slice_cmp nat_cmp p.0 q.0) (p ∷ q ∷ qs) (p ∷ qs) (q ∷ with_pair p qs)
 
+-- the pairs rising by the token, where no two have the same
+abbrev pub distinct_pairs : Replacements → Option Replacements
+distinct_pairs pairs = if all_differ (map (λ p. p.0) pairs) then Some (fold (λ ps p. with_pair p ps) [] pairs) else None
+
 -- an object of at most 4,096 members of one token each, the keys' tokens all different
 abbrev pub replacements_of : Data → Option Replacements
-replacements_of d = option_and_then (λ members. option_and_then (λ pairs. if nat_le (length pairs) 4096 && all_differ (map (λ p. p.0) pairs) then Some (fold (λ ps p. with_pair p ps) [] pairs) else None) (pairs_of members)) (as_object d)
+replacements_of d = option_and_then (λ members. option_and_then (λ pairs. if nat_le (length pairs) 4096 then distinct_pairs pairs else None) (pairs_of members)) (as_object d)
 
 -- a whole number from 1 to 1,000,000,000
 abbrev pub scale_of : Data → Option ℕ
@@ -80,7 +84,3 @@ needs_no_room fault.ScoreMax = false
 -- the layer that bytes stand for after these layers, or its first fault
 abbrev pub layer_of : List LayerView → List ℕ → Result LayerView LayerFault
 layer_of before bytes = ok_or (data_of bytes) fault.Json >>= λ d. layer_of_data before d
-
--- the value replaces no tokens and has the scale of scores that is meant where none is given
-abbrev pub is_simple_layer : Data → Bool
-is_simple_layer d = not (is_some (member (codes "tokens") d)) && not (is_some (member (codes "scoremax") d))

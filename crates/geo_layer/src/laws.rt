@@ -4,7 +4,7 @@ ghost use Rattle.std.specs.Prelude.{◌≡◌, ℕ, List, [], ◌∷◌, codes, 
 ghost use Rattle.geo_layer.specs.Layer.{LayerView, compat};
 ghost use Rattle.geo_layer.specs.Langs.{langs_of};
 ghost use Rattle.geo_layer.specs.LayerText.{layer_of};
-ghost use Rattle.geo_layer.specs.Examples.{plain, sixteen, stacked_text, stacked, street_text, street};
+ghost use Rattle.geo_layer.specs.Examples.{plain, sixteen, stacked_text, stacked, street_text, street, greek_text, greek};
 ghost use Rattle.geo_layer.specs.declared.layer.LayerFault.TheVariants as fault;
 
 /// That two layers are compatible says the same of either order.
@@ -33,4 +33,5 @@ pub fn worked_layers()
     ensures one_token_twice { layer_of [] (codes "{\"name\":\"a\",\"zoom\":6,\"tokens\":{\"St\":\"a\",\"st\":\"b\"}}") ≡ Err fault.Tokens }
     ensures no_scale { layer_of [] (codes "{\"name\":\"a\",\"zoom\":6,\"scoremax\":0}") ≡ Err fault.ScoreMax }
     ensures street { layer_of [] street_text ≡ Ok street }
+    ensures greek { layer_of [] greek_text ≡ Ok greek }
 {}

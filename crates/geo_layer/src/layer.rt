@@ -71,7 +71,7 @@ impl Layer {
         Layer::from_parts(name, zoom, None, 15, TokenMap::new(alloc))
     }
 
-    /// The layer of these parts, which keep what the type of a layer keeps.
+    /// The layer of these parts, which have to make one (`IsLayer`).
     pub fn from_parts(
         name: Text,
         zoom: u8,

@@ -1,14 +1,15 @@
 //! The layer that a JSON value or a JSON text stands for.
 
-ghost use Rattle.std.specs.Prelude.{◌≡◌, ◌<◌, ◌≤◌, ◌==◌, ◌||◌, true, codes, length, None, Some, Ok, Err, ok_or, IfOk, IfSome, option_map, option_and_then};
+ghost use Rattle.std.specs.Prelude.{◌≡◌, ◌<◌, ◌≤◌, ◌==◌, ◌||◌, true, [], codes, length, None, Some, Ok, Err, ok_or, IfOk, option_map, option_and_then};
 ghost use Rattle.std.specs.Int.{is_in_range};
 ghost use Rattle.std.specs.List.{list_all};
-ghost use Rattle.serde_json.specs.View.{view};
+ghost use Rattle.serde_json.specs.Find.{as_str};
+ghost use Rattle.serde_json.specs.View.{view, members_view};
 ghost use Rattle.geo_base.specs.declared.refusal.Refused.TheVariants as refused;
 ghost use Rattle.geo_text.specs.Numbers.{below};
-ghost use Rattle.geo_layer.specs.Json.{data_of, member, natural_of, each_of, optional};
+ghost use Rattle.geo_layer.specs.Json.{member, natural_of, each_of, optional};
 ghost use Rattle.geo_layer.specs.Layer.{is_name};
-ghost use Rattle.geo_layer.specs.LayerText.{layer_of, layer_of_data, last_zoom, name_of, stack_of, is_simple_layer, needs_no_room};
+ghost use Rattle.geo_layer.specs.LayerText.{layer_of, layer_of_data, last_zoom, name_of, stack_of, one_token, pairs_of, distinct_pairs, replacements_of, scale_of, needs_no_room};
 ghost use Rattle.geo_layer.specs.declared.layer.LayerFault.TheVariants as fault;
 ghost use Rattle.geo_layer.specs.declared.layer.LayerFault.{LayerFault};
 
@@ -18,17 +19,10 @@ use crate::layers::Layers;
 use geo_base::refusal::{Memory, Refused};
 use geo_text::text::{Text, Tokens};
 use geo_text::token_map::TokenMap;
+use geo_text::tokens::tokens;
 use serde_json::Value;
+use serde_json::value::Map;
 use std::alloc::Global;
-
-/// Whether the value replaces no tokens and has the scale of scores that is meant where none is
-/// given: neither `tokens` nor `scoremax` is there.
-pub fn is_simple_layer(value: &Value) -> bool
-    ensures { result ≡ is_simple_layer (view value.now) }
-{
-    value.get("tokens").is_none_or(Value::is_null)
-        && value.get("scoremax").is_none_or(Value::is_null)
-}
 
 /// The byte may stand in a name.
 fn is_name_byte(b: &u8) -> bool
@@ -118,6 +112,94 @@ fn stack_in(alloc: Global, value: &Value) -> Result<Option<Option<Tokens>>, Memo
     }
 }
 
+/// The one token of a text.
+fn one_token(alloc: Global, text: &str) -> Result<Option<Text>, Memory>
+    ensures { IfOk result (λ o. o ≡ one_token text.now) }
+{
+    let tokens = tokens(alloc, text, &TokenMap::new(alloc))?;
+    if tokens.len() == 1 {
+        Ok(Some(tokens.at(0).copy()?))
+    } else {
+        Ok(None)
+    }
+}
+
+/// The one token of a string.
+fn token_of(alloc: Global, value: &Value) -> Result<Option<Text>, Memory>
+    ensures { IfOk result (λ o. o ≡ option_and_then one_token (as_str (view value.now))) }
+{
+    match value.as_str() {
+        Some(text) => one_token(alloc, text),
+        None => Ok(None),
+    }
+}
+
+/// What tokens are replaced by, where each key and each value of the members has one token, and no two keys the same.
+fn map_of(alloc: Global, members: &Map<String, Value>) -> Result<Option<TokenMap>, Memory>
+    ensures { IfOk result (λ o. o ≡ option_and_then distinct_pairs (pairs_of (members_view members.now.entries))) }
+{
+    let mut map = TokenMap::new(alloc);
+    for (key, value) in members {
+        let Some(from) = one_token(alloc, key.as_str())? else {
+            return Ok(None);
+        };
+        if map.get(from.as_str()).is_some() {
+            return Ok(None);
+        }
+        let Some(to) = token_of(alloc, value)? else {
+            return Ok(None);
+        };
+        map.insert(from, to)?;
+    }
+    Ok(Some(map))
+}
+
+/// What tokens are replaced by, where the value is an object of at most 4,096 members of one token each, the keys'
+/// tokens all different.
+fn replacements_of(alloc: Global, value: &Value) -> Result<Option<TokenMap>, Memory>
+    ensures { IfOk result (λ o. o ≡ replacements_of (view value.now)) }
+{
+    let Some(members) = value.as_object() else {
+        return Ok(None);
+    };
+    if members.len() > 4096 {
+        return Ok(None);
+    }
+    map_of(alloc, members)
+}
+
+/// What a layer replaces tokens by, which may be absent; None where it is there and of another form.
+fn tokens_in(alloc: Global, value: &Value) -> Result<Option<TokenMap>, Memory>
+    ensures { IfOk result (λ o. ok_or o fault.Tokens ≡ optional replacements_of [] fault.Tokens (member (codes "tokens") (view value.now))) }
+{
+    match value.get("tokens") {
+        Some(tokens) if !tokens.is_null() => replacements_of(alloc, tokens),
+        _ => Ok(Some(TokenMap::new(alloc))),
+    }
+}
+
+/// The scale of scores that a value is.
+fn scale_of(value: &Value) -> Option<u32>
+    ensures { result ≡ scale_of (view value.now) }
+{
+    let scale = value.as_u64()?;
+    if scale >= 1 && scale <= 1_000_000_000 {
+        Some(scale as u32)
+    } else {
+        None
+    }
+}
+
+/// The scale of scores of a layer, 15 where it is absent; None where it is there and of another form.
+fn scale_in(value: &Value) -> Option<u32>
+    ensures { ok_or result fault.ScoreMax ≡ optional scale_of 15 fault.ScoreMax (member (codes "scoremax") (view value.now)) }
+{
+    match value.get("scoremax") {
+        Some(scale) if !scale.is_null() => scale_of(scale),
+        _ => Some(15),
+    }
+}
+
 /// The layer that a value stands for after the layers `before`, or the first of its faults.
 /// Members that are null count as absent, of equal keys the last value stays, and other members
 /// play no part. The layer may be added to those before.
@@ -129,7 +211,6 @@ pub fn layer_of_value(
     value: &Value,
     before: &Layers,
 ) -> Result<Layer, Refused<LayerFault>>
-    requires { is_simple_layer (view value.now) ≡ true }
     ensures layer { IfOk result (λ l. layer_of_data before.now (view value.now) ≡ Ok l) }
     ensures fits { IfOk result (λ l. (length before.now < 16) × (last_zoom before.now ≤ l.zoom)) }
     ensures fault { (e : LayerFault) → result ≡ Err (refused.Fault e) → layer_of_data before.now (view value.now) ≡ Err e }
@@ -150,11 +231,18 @@ pub fn layer_of_value(
     let Some(stack) = stack_in(alloc, value)? else {
         return Err(Refused::Fault(LayerFault::Stack));
     };
+    let Some(tokens) = tokens_in(alloc, value)? else {
+        return Err(Refused::Fault(LayerFault::Tokens));
+    };
     if before.len() >= 16 {
         return Err(Refused::Fault(LayerFault::TooMany));
     }
+    let Some(scoremax) = scale_in(value) else {
+        return Err(Refused::Fault(LayerFault::ScoreMax));
+    };
     let name = Text::of(alloc, name)?;
-    Ok(Layer::from_parts(name, zoom, stack, 15, TokenMap::new(alloc)))
+    let _token_count = tokens.len(); // brings the rule of a token map here: its texts are words
+    Ok(Layer::from_parts(name, zoom, stack, scoremax, tokens))
 }
 
 /// The layer that a JSON text stands for after the layers `before`, or the first of its faults:
@@ -162,7 +250,6 @@ pub fn layer_of_value(
 ///
 /// Memory may be refused in place of any answer.
 pub fn read_layer(alloc: Global, line: &str, before: &Layers) -> Result<Layer, Refused<LayerFault>>
-    requires { IfSome (data_of line.now) (λ d. is_simple_layer d ≡ true) }
     ensures layer { IfOk result (λ l. layer_of before.now line.now ≡ Ok l) }
     ensures fits { IfOk result (λ l. (length before.now < 16) × (last_zoom before.now ≤ l.zoom)) }
     ensures fault { (e : LayerFault) → result ≡ Err (refused.Fault e) → layer_of before.now line.now ≡ Err e }

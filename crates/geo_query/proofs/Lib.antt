@@ -1,4 +1,3 @@
 mod Accepted
-mod Bars
 mod BoxTexts
 mod Codes

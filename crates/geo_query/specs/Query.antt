@@ -1,11 +1,11 @@
 -- The query that a line spells, or its first fault.
-use Rattle.std.specs.Prelude.{ℕ, Bool, true, false, List, [], ◌∷◌, ◌&&◌, ◌||◌, ◌==◌, not, nat_eq, nat_lt, length, codes, chars, bytes_eq, if◌then◌else◌, Option, Some, None, option_and_then, is_some, Result, Ok, Err}
-use Rattle.std.specs.List.{list_all, list_any, before_first, after_first, find, starts_with}
+use Rattle.std.specs.Prelude.{ℕ, Bool, true, false, List, [], ◌∷◌, ◌&&◌, ◌||◌, ◌==◌, not, nat_lt, length, codes, chars, bytes_eq, if◌then◌else◌, Option, Some, None, option_and_then, is_some, Result, Ok, Err}
+use Rattle.std.specs.List.{list_all, list_any, before_first, after_first, find}
 use Rattle.geo_base.specs.LangCode.{is_code}
 use Rattle.geo_base.specs.TileBox.{BoxView, box_at}
 use Rattle.geo_text.specs.Numbers.{slashed}
 use Rattle.geo_text.specs.Tokens.{tokens_of}
-use Rattle.geo_text.specs.Words.{words_of}
+use Rattle.geo_text.specs.Words.{words_of, after_or_all}
 use Rattle.geo_query.specs.QueryView.{QueryView}
 use Rattle.geo_query.specs.declared.query.QueryFault.{QueryFault}
 use Rattle.geo_query.specs.declared.query.QueryFault.TheVariants as fault
@@ -16,7 +16,7 @@ option_words line = if list_any (λ b. b == 124) line then words_of (before_firs
 
 -- the text of a query: what follows the first bar, or the whole line where it has none
 abbrev pub query_text : List ℕ → List ℕ
-query_text line = if list_any (λ b. b == 124) line then after_first (λ b. b == 124) line else line
+query_text line = after_or_all 124 line
 
 -- the name of an option, which ends at the first equals sign
 abbrev pub name_part : List ℕ → List ℕ
@@ -89,7 +89,3 @@ needs_no_room fault.Box = true
 needs_no_room fault.Long = true
 needs_no_room fault.Empty = false
 needs_no_room fault.Tokens = false
-
--- one of the options asks for a language
-abbrev pub asks_language : List ℕ → Bool
-asks_language line = list_any (λ word. starts_with nat_eq word (codes "lang=")) (option_words line)

@@ -1,14 +1,15 @@
 //! The query that a line spells.
 
-ghost use Rattle.std.specs.Prelude.{◌≡◌, true, IsAscii, IfOk, Ok, Err, length, chars, ◌==◌, position};
+ghost use Rattle.std.specs.Prelude.{◌≡◌, true, IfOk, Ok, Err, length, chars};
 ghost use Rattle.geo_base.specs.declared.refusal.Refused.TheVariants as refused;
-ghost use Rattle.geo_query.specs.Query.{query_of, option_words, query_text, needs_no_room};
+ghost use Rattle.geo_query.specs.Query.{query_of, option_words, needs_no_room};
 ghost use Rattle.geo_text.specs.Words.{words_of};
 ghost use Rattle.geo_query.specs.declared.query.QueryFault.{QueryFault};
 
 use crate::options::{auto_in, bounds_in, lang_in, options_fit};
 use crate::query::{Query, QueryFault};
 use geo_base::refusal::Refused;
+use geo_text::cut::{before, text_after};
 use geo_text::token_map::TokenMap;
 use geo_text::tokens::tokens;
 use std::alloc::Global;
@@ -26,33 +27,14 @@ fn count_characters(text: &str) -> usize
     text.chars().count()
 }
 
-/// The place of the first bar.
-fn bar(line: &[u8]) -> Option<usize>
-    ensures { result ≡ position (λ b. b == 124) line.now }
-{
-    line.iter().position(|b| *b == b'|')
-}
-
 /// The words of a line's options, which stand before its first bar; no text where it has none.
 fn options_of(line: &[u8]) -> &[u8]
     ensures { words_of result.now ≡ option_words line.now }
 {
-    match bar(line) {
-        Some(at) => &line[..at],
-        None => &line[..0],
-    }
-}
-
-/// The text of a query, which follows the first bar of its line, or is the whole line where it
-/// has none.
-fn text_of(line: &str) -> &str
-    requires { IsAscii line.now }
-    ensures value { result.now ≡ query_text line.now }
-    ensures ascii { IsAscii result.now }
-{
-    match bar(line.as_bytes()) {
-        Some(at) => &line[at + 1..],
-        None => line,
+    if line.contains(&b'|') {
+        before(line, b'|')
+    } else {
+        &line[..0]
     }
 }
 
@@ -64,7 +46,6 @@ fn text_of(line: &str) -> &str
 /// Memory may be refused in place of any answer but the faults `WrongOption`, `Box` and `Long`, which are found before
 /// any room is asked for.
 pub fn read_query(alloc: Global, line: &str) -> Result<Query, Refused<QueryFault>>
-    requires { IsAscii line.now }
     ensures ok { IfOk result (λ q. query_of line.now ≡ Ok q) }
     ensures fault { (fault : QueryFault) → result ≡ Err (refused.Fault fault) → query_of line.now ≡ Err fault }
     ensures outright { (fault : QueryFault) → needs_no_room fault ≡ true → query_of line.now ≡ Err fault → result ≡ Err (refused.Fault fault) }
@@ -76,7 +57,7 @@ pub fn read_query(alloc: Global, line: &str) -> Result<Query, Refused<QueryFault
     let Some(bounds) = bounds_in(words) else {
         return Err(Refused::Fault(QueryFault::Box));
     };
-    let text = text_of(line);
+    let text = text_after(line, b'|');
     if count_characters(text) > MOST_CHARACTERS {
         return Err(Refused::Fault(QueryFault::Long));
     }

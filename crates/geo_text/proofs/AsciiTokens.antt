@@ -1,5 +1,5 @@
 -- On ASCII the normal form is the lower-case text, and a token is a run of letters and digits.
-use Rattle.std.proofs.Common.{◌≡◌, ◌∙◌, ◌<◌, ℕ, zero, suc, Bool, true, false, cond, not, List, [], ◌∷◌, map, filter, refl, sym, ap, subst, nat_lt, ◌&&◌, ◌||◌, chars, encode_utf8_all, All}
+use Rattle.std.proofs.Common.{◌≡◌, ◌∙◌, ◌<◌, ℕ, zero, suc, Bool, true, false, cond, not, List, [], ◌∷◌, ◌++◌, map, filter, unwrap_or, refl, sym, ap, subst, nat_lt, ◌&&◌, ◌||◌, chars, encode_utf8_all, All}
 use Rattle.std.specs.Prelude.{IsAscii}
 use Rattle.std.specs.Char.{is_ascii_alphanumeric, to_ascii_lowercase}
 use Rattle.std.specs.List.{slice_split, onto_first}
@@ -17,8 +17,9 @@ use Rattle.ucd_category.specs.declared.GeneralCategoryGroup.TheVariants.{Letter,
 use Rattle.caseless.specs.Caseless.{canonical_key}
 use Rattle.caseless.proofs.CaselessLemmas.{canonical_key-ascii, default_case_fold-ascii, All-chars}
 use Rattle.geo_text.specs.Normal.{is_token_char, is_combining, normal_chars}
-use Rattle.geo_text.specs.Tokens.{tokens_of, runs}
+use Rattle.geo_text.specs.Tokens.{Replacements, tokens_of, runs, replacement, replaced}
 use Rattle.geo_text.specs.Words.{is_not_empty}
+use Rattle.geo_text.proofs.Joins.{encode_some}
 
 -- the characters of the category stand in tokens
 in_token : GeneralCategory → Bool
@@ -92,19 +93,19 @@ split_lower (c ∷ cs) h =
       | false ↦ refl
     ]
 
--- lower case empties no part
-filter-lower : (parts : List (List ℕ)) → filter is_not_empty (map lower parts) ≡ map lower (filter is_not_empty parts)
-filter-lower [] = refl
-filter-lower ([] ∷ parts) = filter-lower parts
-filter-lower ((c ∷ cs) ∷ parts) = ap (λ l. lower (c ∷ cs) ∷ l) (filter-lower parts)
+-- the characters of a part in lower case
+abbrev pub lowered : List ℕ → List ℕ
+lowered part = encode_utf8_all (lower part)
 
 -- the runs of letters and digits in a text, in lower case
 abbrev pub ascii_tokens : List ℕ → List (List ℕ)
-ascii_tokens bs = map (λ part. encode_utf8_all (lower part)) (filter is_not_empty (slice_split (λ b. not (is_ascii_alphanumeric b)) bs))
+ascii_tokens bs = filter is_not_empty (map lowered (slice_split (λ b. not (is_ascii_alphanumeric b)) bs))
 
-encode_parts : (parts : List (List ℕ)) → map encode_utf8_all (map lower parts) ≡ map (λ part. encode_utf8_all (lower part)) parts
-encode_parts [] = refl
-encode_parts (part ∷ parts) = ap (λ l. encode_utf8_all (lower part) ∷ l) (encode_parts parts)
+-- lower case empties no part
+lowered_parts : (parts : List (List ℕ)) → map encode_utf8_all (filter is_not_empty (map lower parts)) ≡ filter is_not_empty (map lowered parts)
+lowered_parts [] = refl
+lowered_parts ([] ∷ parts) = lowered_parts parts
+lowered_parts ((c ∷ cs) ∷ parts) = rw (encode_some (to_ascii_lowercase c) (lower cs)) (ap (λ l. lowered (c ∷ cs) ∷ l) (lowered_parts parts))
 
 -- the tokens of an ASCII text are its runs of letters and digits in lower case
 pub tokens_of-ascii : (bs : List ℕ) → IsAscii bs → tokens_of bs ≡ ascii_tokens bs
@@ -112,5 +113,12 @@ tokens_of-ascii bs ascii =
     let here = small bs ascii in
     ap (λ cs. map encode_utf8_all (runs is_token_char cs)) (normal_chars-ascii bs ascii)
     ∙ ap (λ parts. map encode_utf8_all (filter is_not_empty parts)) (split_lower bs here)
-    ∙ ap (map encode_utf8_all) (filter-lower (slice_split (λ b. not (is_ascii_alphanumeric b)) bs))
-    ∙ encode_parts (filter is_not_empty (slice_split (λ b. not (is_ascii_alphanumeric b)) bs))
+    ∙ lowered_parts (slice_split (λ b. not (is_ascii_alphanumeric b)) bs)
+
+-- one more part
+pub one_part : (replacements : Replacements) (parts : List (List ℕ)) (part : List ℕ) → replaced replacements (filter is_not_empty (map lowered parts)) ++ replaced replacements (filter is_not_empty (lowered part ∷ [])) ≡ replaced replacements (filter is_not_empty (map lowered (parts ++ part ∷ [])))
+one_part replacements [] part = refl
+one_part replacements (first ∷ parts) part = elim (is_not_empty (lowered first)) as (λ b. replaced replacements (cond b (lowered first ∷ filter is_not_empty (map lowered parts)) (filter is_not_empty (map lowered parts))) ++ replaced replacements (filter is_not_empty (lowered part ∷ [])) ≡ replaced replacements (cond b (lowered first ∷ filter is_not_empty (map lowered (parts ++ part ∷ []))) (filter is_not_empty (map lowered (parts ++ part ∷ []))))) [
+  | true ↦ ap (λ l. unwrap_or (replacement replacements (lowered first)) (lowered first) ∷ l) (one_part replacements parts part)
+  | false ↦ one_part replacements parts part
+]

@@ -1,10 +1,12 @@
 -- A text that a loop puts together: what one more piece adds.
-use Rattle.std.proofs.Common.{◌≡◌, ◌∙◌, ◌+◌, ◌<◌, ℕ, List, [], ◌∷◌, ◌++◌, length, take, drop, map, refl, sym, ap, arith, encode_utf8_all, slice_index_or, add-zero, Some}
+use Rattle.std.proofs.Common.{◌≡◌, ◌∙◌, ◌+◌, ◌<◌, ℕ, true, List, [], ◌∷◌, ◌++◌, length, length-append, take, drop, map, refl, sym, ap, arith, encode_utf8_all, slice_index_or, add-zero, Some}
 use Rattle.std.specs.Prelude.{slice_get}
 use Rattle.std.specs.Char.{encode_utf8, to_ascii_lowercase}
 use Rattle.std.proofs.lemmas.List.{take_more, append_assoc, append-nil, length-drop, length-take, get_or-drop, map-append}
 use Rattle.std.proofs.lemmas.Option.{get_or_from_slice_get}
+use Rattle.std.proofs.lemmas.Str.{length-encode, len_utf8_bounds}
 use Rattle.geo_text.specs.Tokens.{joined}
+use Rattle.geo_text.specs.Words.{is_not_empty}
 
 -- one more text, after a space
 joined-push : (x : List ℕ) (xs : List (List ℕ)) (y : List ℕ) → joined (x ∷ xs ++ y ∷ []) ≡ joined (x ∷ xs) ++ 32 ∷ y
@@ -12,9 +14,18 @@ joined-push x [] y = refl
 joined-push x (z ∷ xs) y = ap (λ l. x ++ 32 ∷ l) (joined-push z xs y) ∙ sym (append_assoc x (32 ∷ joined (z ∷ xs)) (32 ∷ y))
 
 -- one more character
-encode_utf8_all-push : (cs : List ℕ) (c : ℕ) → encode_utf8_all (cs ++ c ∷ []) ≡ encode_utf8_all cs ++ encode_utf8 c
+pub encode_utf8_all-push : (cs : List ℕ) (c : ℕ) → encode_utf8_all (cs ++ c ∷ []) ≡ encode_utf8_all cs ++ encode_utf8 c
 encode_utf8_all-push [] c = append-nil (encode_utf8 c)
 encode_utf8_all-push (d ∷ cs) c = ap (λ l. encode_utf8 d ++ l) (encode_utf8_all-push cs c) ∙ sym (append_assoc (encode_utf8 d) (encode_utf8_all cs) (encode_utf8 c))
+
+-- a list with something in it
+some : {X : Type 0} (xs : List X) → 0 < length xs → is_not_empty xs ≡ true
+some [] h = absurd (omega (arith, h))
+some (x ∷ xs) h = refl
+
+-- a character has a byte
+pub encode_some : (c : ℕ) (cs : List ℕ) → is_not_empty (encode_utf8_all (c ∷ cs)) ≡ true
+encode_some c cs = some _ (omega (arith, length-append (encode_utf8 c) (encode_utf8_all cs), length-encode c, (len_utf8_bounds c).0))
 
 -- one more text after some
 joined-more : (xs : List (List ℕ)) (y : List ℕ) → 0 < length xs → joined (xs ++ y ∷ []) ≡ joined xs ++ 32 ∷ y

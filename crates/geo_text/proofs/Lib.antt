@@ -1,6 +1,8 @@
 pub mod Ascii
 pub mod AsciiTokens
+pub mod FirstPlace
 mod Joins
+mod KeyTokens
 pub mod Lists
 pub mod Replaced
 pub mod SplitParts

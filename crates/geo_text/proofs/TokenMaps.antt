@@ -48,6 +48,15 @@ module _ {Y : Type 0} where
       ∙ (changed (bytes_eq from q) to (tree.get_by_text m q)
       ∙ ap (cond (bytes_eq from q) (Some (string_bytes to))) (sym (replacement_is q m.entries))))
 
+  -- an insertion puts the bytes where it puts the entry
+  pub entries_put : (k v : String Y) (es : Entries Y) → texts_of (insert_entry string_cmp es k v) ≡ insert_entry (slice_cmp nat_cmp) (texts_of es) (string_bytes k) (string_bytes v)
+  entries_put k v [] = refl
+  entries_put k v (e ∷ es) = elim (string_cmp k e.0) as (λ o. texts_of (match_ordering o ((k, v) ∷ e ∷ es) ((e.0, v) ∷ es) (e ∷ insert_entry string_cmp es k v)) ≡ match_ordering o ((string_bytes k, string_bytes v) ∷ texts_of (e ∷ es)) ((string_bytes e.0, string_bytes v) ∷ texts_of es) ((string_bytes e.0, string_bytes e.1) ∷ insert_entry (slice_cmp nat_cmp) (texts_of es) (string_bytes k) (string_bytes v))) [
+    | Less ↦ refl
+    | Equal ↦ refl
+    | Greater ↦ ap (λ l. (string_bytes e.0, string_bytes e.1) ∷ l) (entries_put k v es)
+  ]
+
   -- each key and each value is a word
   abbrev Words : Entries Y → Type 0
   Words es = AllByRecursion (λ r. IsWord r.0 × IsWord r.1) (texts_of es)

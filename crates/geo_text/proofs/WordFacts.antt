@@ -2,7 +2,7 @@
 use Rattle.std.proofs.Common.{◌≡◌, ◌≢◌, ◌∙◌, ◌+◌, ◌<◌, ◌≤◌, ◌==◌, ℕ, suc, Bool, true, false, cond, not, List, [], ◌∷◌, length, take, filter, nat_lt, refl, sym, ap, subst, arith, ltb-true, length-drop, inl, inr}
 use Rattle.std.specs.List.{slice_split, position_or_len, list_any, AllByRecursion}
 use Rattle.std.proofs.lemmas.List.Elements.{All-from_recursion, recursion_from_All}
-use Rattle.std.proofs.lemmas.Bool.{ltb-false, cases_Bool, or_parts, or_from, eqb-false, ne_eqb}
+use Rattle.std.proofs.lemmas.Bool.{ltb-false, cases_Bool, or_parts, or_from, eqb-true, eqb-false, ne_eqb}
 use Rattle.std.proofs.lemmas.List.{take_all, drop_all, length-take}
 use Rattle.std.proofs.lemmas.List.Splits.{slice_split_none, slice_split_first}
 use Rattle.std.proofs.lemmas.List.Sums.{fails_before_first}
@@ -19,6 +19,14 @@ skip_yes b bs is = rw is refl
 -- another byte isn't
 skip_no : (b : ℕ) (bs : List ℕ) → (b == 32) ≡ false → skip_spaces (b ∷ bs) ≡ b ∷ bs
 skip_no b bs isnt = rw isnt refl
+
+-- where no space stands at the beginning, nothing is skipped
+pub none_skipped : (text : List ℕ) → ((rest : List ℕ) → text ≢ 32 ∷ rest) → text ≡ skip_spaces text
+none_skipped [] other = refl
+none_skipped (b ∷ bs) other = elim (cases_Bool (b == 32)) [
+  | inl is ↦ absurd (other bs (ap (λ x. x ∷ bs) (eqb-true b 32 is)))
+  | inr isnt ↦ sym (skip_no b bs isnt)
+]
 
 -- a space at the beginning adds no word
 one_less : (b : ℕ) (bs : List ℕ) → (b == 32) ≡ true → words_of (b ∷ bs) ≡ words_of bs

@@ -3,3 +3,4 @@ pub mod Words
 pub mod Tokens
 pub mod Parts
 pub mod Numbers
+pub mod Examples

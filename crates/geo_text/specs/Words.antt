@@ -1,6 +1,6 @@
 -- Words between spaces.
 use Rattle.std.specs.Prelude.{ℕ, ◌<◌, ◌≢◌, Bool, true, false, List, [], ◌∷◌, ◌==◌, length, filter, All, if◌then◌else◌}
-use Rattle.std.specs.List.{slice_split, before_first, after_first}
+use Rattle.std.specs.List.{slice_split, before_first, after_first, list_any}
 
 -- the list has something in it
 abbrev pub is_not_empty : {X : Type 0} → List X → Bool
@@ -18,6 +18,10 @@ first_word text = before_first (λ b. b == 32) text
 -- what follows that word and one space
 abbrev pub after_word : List ℕ → List ℕ
 after_word text = after_first (λ b. b == 32) text
+
+-- what follows the first of these marks, or the whole text where there is none
+abbrev pub after_or_all : ℕ → List ℕ → List ℕ
+after_or_all mark text = if list_any (λ b. b == mark) text then after_first (λ b. b == mark) text else text
 
 -- the text without the spaces at its beginning
 abbrev pub skip_spaces : List ℕ → List ℕ

@@ -1,7 +1,9 @@
-//! Texts: their tokens, the replacement of tokens, numbers as digits, and cutting bytes into words.
+//! Texts: their normal form and tokens, the replacement of tokens, numbers as digits, and cutting texts into words.
 #![tactic(auto)]
 
 pub mod cut;
+pub mod laws;
+pub mod normalizer;
 pub mod number;
 pub mod text;
 pub mod token_map;

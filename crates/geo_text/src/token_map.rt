@@ -1,6 +1,9 @@
 //! What tokens are replaced by.
 
-ghost use Rattle.std.specs.Prelude.{◌≡◌, ◌<◌, [], length, slice_get, IfOk, OnOk, OnErr, option_map, bytes_eq, Option, Some, ℕ, List, if◌then◌else◌};
+ghost use Rattle.std.specs.Prelude.{◌≡◌, ◌<◌, [], length, slice_get, IfOk, OnOk, OnErr, option_map, unwrap_or, bytes_eq, Option, Some, ℕ, List, if◌then◌else◌};
+ghost use Rattle.std.specs.BTreeMap.{insert_entry};
+ghost use Rattle.std.specs.Cmp.Lexicographic.{slice_cmp};
+ghost use Rattle.std.specs.Ordering.{nat_cmp};
 ghost use Rattle.geo_text.specs.Tokens.{replacement, AreWords, Rise};
 ghost use Rattle.geo_text.specs.Words.{IsWord};
 
@@ -69,12 +72,25 @@ impl TokenMap {
         }
     }
 
+    /// What the token is replaced by, or the token itself where it stays as it is. Memory may be refused in place of any
+    /// answer.
+    pub fn text_for(&self, alloc: Global, token: &str) -> Result<Text, Memory>
+        ensures { IfOk result (λ text. text ≡ unwrap_or (replacement self.now token.now) token.now) }
+    {
+        match self.get(token) {
+            Some(text) => Text::of(alloc, text),
+            None => Text::of(alloc, token),
+        }
+    }
+
     /// From now on the token `from` is replaced by `to`, whatever it was replaced by before; the
-    /// other tokens are replaced as before. After want of memory the map is as before.
+    /// other tokens are replaced as before. The pair stands at its place in the order of the tokens. After want of
+    /// memory the map is as before.
     pub fn insert(&mut self, from: Text, to: Text) -> Result<(), Memory>
         requires token { IsWord from }
         requires text { IsWord to }
         ensures ok { OnOk result ((q : List ℕ) → replacement self.new q ≡ (if bytes_eq from q then Some to else replacement self.old q)) }
+        ensures list { OnOk result (self.new ≡ insert_entry (slice_cmp nat_cmp) self.old from to) }
         ensures err { OnErr result (self.new ≡ self.old) }
     {
         self.words.insert(from.into_string(), to.into_string())?;

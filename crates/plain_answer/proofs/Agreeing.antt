@@ -15,7 +15,7 @@ use Rattle.feature_reader.specs.declared.phrase.Phrase.{Phrase}
 use Rattle.feature_reader.specs.FeatureView.{FeatureView}
 use Rattle.feature_reader.specs.Table.{Table, IsTable, comes_before}
 use Rattle.plain_answer.specs.Match.{matches_in, runs}
-use Rattle.plain_answer.specs.Links.{lies_in, link_of, run_links, phrase_links, feature_links, links}
+use Rattle.plain_answer.specs.Links.{meets_bounds, link_of, run_links, phrase_links, feature_links, links}
 use Rattle.plain_answer.specs.Answering.{IsOfHead}
 
 -- what a link of a table is: one of an entry's feature, at one of its tiles, in a layer of the head
@@ -36,12 +36,12 @@ of_run : (head : Head) (q : QueryView) (layer : LayerView) (number : ℕ) (f : F
 of_run head q layer number f p run l h = by (matches_in layer q p.text run) refl h
   where
     here : List Link
-    here = map (link_of head q number f p run) (filter (lies_in q.bounds) f.tiles)
+    here = map (link_of head q number f p run) (filter (meets_bounds q.bounds) f.tiles)
 
     by : (b : Bool) → matches_in layer q p.text run ≡ b → Contains (cond b here []) l → (t : TileView) × Contains f.tiles t × (link_of head q number f p run t ≡ l)
     by true is_in h =
-        let (t, among, is) = member_of_map (link_of head q number f p run) (filter (lies_in q.bounds) f.tiles) l h in
-        (t, (member_of_filter (lies_in q.bounds) f.tiles t among).0, is)
+        let (t, among, is) = member_of_map (link_of head q number f p run) (filter (meets_bounds q.bounds) f.tiles) l h in
+        (t, (member_of_filter (meets_bounds q.bounds) f.tiles t among).0, is)
     by false is_out h = absurd (no_member l h)
 
 -- a link of a table is one of an entry's feature

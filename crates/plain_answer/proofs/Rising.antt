@@ -13,7 +13,7 @@ use Rattle.feature_reader.specs.declared.phrase.Phrase.{Phrase}
 use Rattle.feature_reader.specs.FeatureView.{FeatureView}
 use Rattle.feature_reader.specs.Table.{Table, IsTable}
 use Rattle.plain_answer.specs.Match.{matches_in, runs}
-use Rattle.plain_answer.specs.Links.{lies_in, link_of, run_links, phrase_links, feature_links, links}
+use Rattle.plain_answer.specs.Links.{meets_bounds, link_of, run_links, phrase_links, feature_links, links}
 use Rattle.plain_answer.proofs.Differing.{all_flat_map}
 
 -- pieces that are marked, each by what it is made of, rise where the marks do
@@ -47,8 +47,8 @@ module _ (head : Head) (q : QueryView) (number : ℕ) (f : FeatureView) where
   of_run : (layer : LayerView) (p : Phrase) (run : ℕ × ℕ) → All (λ l. l.layer ≡ number) (run_links head q layer number f p run)
   of_run layer p run = by (matches_in layer q p.text run)
     where
-      by : (b : Bool) → All (λ l. l.layer ≡ number) (cond b (map (link_of head q number f p run) (filter (lies_in q.bounds) f.tiles)) [])
-      by true = All-map (λ l. l.layer ≡ number) (link_of head q number f p run) (filter (lies_in q.bounds) f.tiles) (λ k d within. refl)
+      by : (b : Bool) → All (λ l. l.layer ≡ number) (cond b (map (link_of head q number f p run) (filter (meets_bounds q.bounds) f.tiles)) [])
+      by true = All-map (λ l. l.layer ≡ number) (link_of head q number f p run) (filter (meets_bounds q.bounds) f.tiles) (λ k d within. refl)
       by false = λ k d within. absurd (omega (arith, within))
 
   of_feature : (o : Option LayerView) → All (λ l. l.layer ≡ number) (feature_links head q o number f)

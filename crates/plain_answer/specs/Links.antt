@@ -19,9 +19,9 @@ factor langs None p = 100
 factor langs (Some code) p = if has_bit p.set.bits (bit_of langs code) then 100 else 96
 
 -- the tile meets the box, where one is asked for
-abbrev pub lies_in : Option BoxView → TileView → Bool
-lies_in None t = true
-lies_in (Some bounds) t = meets bounds t
+abbrev pub meets_bounds : Option BoxView → TileView → Bool
+meets_bounds None t = true
+meets_bounds (Some bounds) t = meets bounds t
 
 -- the link of a feature, a phrase of it, a run that matches the phrase, and a tile: its value is the number of tokens, times the relevance, times the factor
 abbrev pub link_of : Head → QueryView → ℕ → FeatureView → Phrase → ℕ × ℕ → TileView → Link
@@ -31,7 +31,7 @@ link_of head q layer f p run tile =
 -- the links of a run, where it matches the phrase: one for each of the feature's tiles in the box
 abbrev pub run_links : Head → QueryView → LayerView → ℕ → FeatureView → Phrase → ℕ × ℕ → List Link
 run_links head q layer number f p run =
-    if matches_in layer q p.text run then map (link_of head q number f p run) (filter (lies_in q.bounds) f.tiles) else []
+    if matches_in layer q p.text run then map (link_of head q number f p run) (filter (meets_bounds q.bounds) f.tiles) else []
 
 -- the links of a phrase
 abbrev pub phrase_links : Head → QueryView → LayerView → ℕ → FeatureView → Phrase → List Link

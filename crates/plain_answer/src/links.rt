@@ -7,7 +7,7 @@ ghost use Rattle.geo_text.specs.Tokens.{replaced};
 ghost use Rattle.geo_layer.specs.Layer.{LayerView};
 ghost use Rattle.feature_reader.specs.FeatureView.{IsFeature};
 ghost use Rattle.plain_answer.specs.Match.{runs_from, runs, matches_in};
-ghost use Rattle.plain_answer.specs.Links.{factor, lies_in, link_of, run_links, phrase_links, feature_links, links};
+ghost use Rattle.plain_answer.specs.Links.{factor, meets_bounds, link_of, run_links, phrase_links, feature_links, links};
 
 use crate::matching::is_match;
 use feature_reader::feature::Feature;
@@ -24,8 +24,8 @@ use geo_text::text::Tokens;
 use std::alloc::Global;
 
 /// Whether the tile meets the query's box, where it asks for one.
-fn lies_in(query: &Query, tile: &Tile) -> bool
-    ensures { result ≡ lies_in query.now.bounds tile.now }
+fn meets_bounds(query: &Query, tile: &Tile) -> bool
+    ensures { result ≡ meets_bounds query.now.bounds tile.now }
 {
     match query.bounds() {
         Some(bounds) => bounds.meets(tile),
@@ -73,14 +73,14 @@ impl LayerQuery<'_> {
     ) -> Result<(), Memory>
         requires some { from < to }
         requires few { to ≤ 20 }
-        ensures { OnOk result (links.new.items ≡ links.old.items ++ map (link_of self.now.head.now self.now.query.now self.now.number feature.now phrase.now (from, to)) (filter (lies_in self.now.query.now.bounds) feature.now.tiles)) }
+        ensures { OnOk result (links.new.items ≡ links.old.items ++ map (link_of self.now.head.now self.now.query.now self.now.number feature.now phrase.now (from, to)) (filter (meets_bounds self.now.query.now.bounds) feature.now.tiles)) }
     {
         let relevance = phrase.relev;
         let factor = factor(&self.head.langs, self.query, phrase);
         let value = (to - from) as u32 * u32::from(relevance) * factor;
         let (id, score) = (feature.id(), feature.score());
         for tile in feature.tiles().as_slice() {
-            if lies_in(self.query, tile) {
+            if meets_bounds(self.query, tile) {
                 links.push(Link {
                     layer: self.number,
                     from: from as u8,

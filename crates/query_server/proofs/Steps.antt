@@ -77,7 +77,7 @@ counts_bounded head counts line left bound eight fits all = by line fits
     by (Load feed layer) fits = weaker
     by (Limit n) fits = weaker
     by Publish fits = weaker
-    by (Ask lane text) (within, ascii) =
+    by (Ask lane text) within =
         let here : slice_index counts lane + suc left ≤ bound = all lane 0 (omega (arith, within, eight)) in
         All-set (λ n. n + left ≤ bound) counts lane (slice_index counts lane + 1) (omega (arith, here)) weaker
 

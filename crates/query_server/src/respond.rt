@@ -1,6 +1,6 @@
 //! Answers the lines of a round in order, and makes their text.
 
-ghost use Rattle.std.specs.Prelude.{◌≡◌, ◌⊎◌, ◌<◌, ◌≤◌, ℕ, false, List, [], ◌∷◌, length, All, IsAscii, OnOk, IfOk, Ok, Err};
+ghost use Rattle.std.specs.Prelude.{◌≡◌, ◌⊎◌, ◌<◌, ◌≤◌, ℕ, false, List, [], ◌∷◌, length, All, OnOk, IfOk, Ok, Err};
 ghost use Rattle.geo_layer.specs.declared.head.Head.{Head};
 ghost use Rattle.geo_query.specs.declared.reply.Reply.{Reply};
 ghost use Rattle.plain_answer.specs.Answering.{answer_of, IsOfHead};
@@ -65,7 +65,7 @@ impl Standing {
 }
 
 /// The reply of the last published generation to a query that was read.
-fn answered(alloc: Global, head: &Head, standing: &Standing, query: &Query) -> Reply
+fn reply_of_query(alloc: Global, head: &Head, standing: &Standing, query: &Query) -> Reply
     requires { IsOfHead head.now standing.now.published }
     ensures { (result ≡ reply_of standing.now.number (answer_of head.now standing.now.published standing.now.published_limit query.now)) ⊎ (result ≡ Reply.Memory) }
 {
@@ -89,19 +89,18 @@ fn answered(alloc: Global, head: &Head, standing: &Standing, query: &Query) -> R
 
 /// The reply of the last published generation to the text of a query.
 fn reply(alloc: Global, head: &Head, standing: &Standing, text: &str) -> Reply
-    requires ascii { IsAscii text.now }
-    requires head { IsOfHead head.now standing.now.published }
+    requires { IsOfHead head.now standing.now.published }
     ensures { (result ≡ reply_to (builder_of head.now standing.now).last text.now) ⊎ ((is_refused_outright text.now ≡ false) × (result ≡ Reply.Memory)) }
 {
     match read_query(alloc, text) {
-        Ok(query) => answered(alloc, head, standing, &query),
+        Ok(query) => reply_of_query(alloc, head, standing, &query),
         Err(Refused::Fault(fault)) => Reply::Unreadable(fault),
         Err(Refused::Memory) => Reply::Memory,
     }
 }
 
 /// Takes a feature into a layer, and says what the put answers.
-fn taken(
+fn take_feature(
     table: &mut FeatureTable,
     layer: u8,
     feature: Feature,
@@ -129,7 +128,7 @@ fn put(
     ensures { (head : Head) → OnOk result (IsStep head (body.Put layer feature) standing.old standing.new out.old.items out.new.items) }
 {
     let id = feature.id();
-    let answer = taken(&mut standing.table, layer, feature)?;
+    let answer = take_feature(&mut standing.table, layer, feature)?;
     write_put(out, layer, id, &answer)
 }
 
@@ -175,7 +174,6 @@ fn ask(
     out: &mut Vec<u8>,
 ) -> Result<(), Memory>
     requires lane { lane < 8 }
-    requires ascii { IsAscii text.now }
     requires head { IsOfHead head.now standing.old.published }
     requires few { All (λ n. n < 4294967295) standing.old.asks }
     ensures { OnOk result (IsStep head.now (body.Ask lane text.now) standing.old standing.new out.old.items out.new.items) }

@@ -28,7 +28,7 @@ pub const BASE: &str =
 /// What is written for them.
 pub const BASE_OUT: &str = "put 0 1 new\nput 2 2 new\npublished 1\n";
 
-pub const ROWS: [Row; 30] = [
+pub const ROWS: [Row; 33] = [
     Row {
         name: "a city and its country",
         session: &[(BASE, 0, 0), ("ask 0 new york usa\nend\n", 0, 0)],
@@ -418,6 +418,48 @@ pub const ROWS: [Row; 30] = [
         status: Status::Done,
         text: &[(
             "put 0 1 new\nput 1 1 new\npublished 1\nask 0 0 gen 1 found 2\ncontext 20000/20000 score 0 1:1@6/1/1[1,2)=10000 0:1@6/1/1[0,1)=10000\ncontext 10000/20000 score 0 0:1@6/1/1[0,1)=10000\n",
+            0,
+            0,
+        )],
+    },
+    Row {
+        name: "texts in a language, and one that isn't listed",
+        session: &[(
+            "carmen 1\nlangs fr\nlayer {\"name\":\"country\",\"zoom\":6}\nput 0 {\"id\":1,\"properties\":{\"carmen:text\":\"USA\",\"carmen:text_fr\":\"États-Unis\",\"carmen:zxy\":[\"6/32/32\",\"6/33/32\"]}}\npublish\nask 0 lang=fr | usa\nask 0 lang=fr | etats unis\nask 0 lang=xx | usa\nask 0 ÉTATS-UNIS\nend\n",
+            0,
+            0,
+        )],
+        status: Status::Done,
+        text: &[(
+            "put 0 1 new\npublished 1\nask 0 0 gen 1 found 1\ncontext 9600/10000 score 0 0:1@6/32/32[0,1)=9600\nask 0 1 gen 1 found 1\ncontext 20000/20000 score 0 0:1@6/32/32[0,2)=20000\nask 0 2 gen 1 found 1\ncontext 10000/10000 score 0 0:1@6/32/32[0,1)=10000\nask 0 3 gen 1 found 1\ncontext 20000/20000 score 0 0:1@6/32/32[0,2)=20000\n",
+            0,
+            0,
+        )],
+    },
+    Row {
+        name: "replaced tokens",
+        session: &[(
+            "carmen 1\nlayer {\"name\":\"country\",\"zoom\":6}\nlayer {\"name\":\"region\",\"zoom\":6}\nlayer {\"name\":\"place\",\"zoom\":6,\"tokens\":{\"St\":\"street\"}}\nput 2 {\"id\":3,\"properties\":{\"carmen:text\":\"Große St,Grüne St\",\"carmen:zxy\":[\"6/1/1\"]}}\npublish\nask 0 GROSSE ST\nask 0 grune street\nend\n",
+            0,
+            0,
+        )],
+        status: Status::Done,
+        text: &[(
+            "put 2 3 new\npublished 1\nask 0 0 gen 1 found 1\ncontext 20000/20000 score 0 2:3@6/1/1[0,2)=20000\nask 0 1 gen 1 found 1\ncontext 16000/20000 score 0 2:3@6/1/1[0,2)=16000\n",
+            0,
+            0,
+        )],
+    },
+    Row {
+        name: "a relevance caps, and a scale of scores",
+        session: &[(
+            "carmen 1\nlayer {\"name\":\"place\",\"zoom\":6,\"scoremax\":100}\nput 0 {\"id\":3,\"properties\":{\"carmen:text\":\"Köln,Cologne\",\"carmen:relev\":60,\"carmen:score\":1,\"carmen:zxy\":[\"6/1/1\"]}}\npublish\nask 0 koln\nask 0 cologne\nend\n",
+            0,
+            0,
+        )],
+        status: Status::Done,
+        text: &[(
+            "put 0 3 new\npublished 1\nask 0 0 gen 1 found 1\ncontext 6000/10000 score 1 0:3@6/1/1[0,1)=6000\nask 0 1 gen 1 found 1\ncontext 6000/10000 score 1 0:3@6/1/1[0,1)=6000\n",
             0,
             0,
         )],

@@ -3,23 +3,18 @@ use Rattle.std.proofs.Common.{◌≡◌, ◌==◌, ◌&&◌, ℕ, ◌+◌, Bool,
 use Rattle.std.specs.Prelude.{⊤, codes, bytes_eq, count_by, ok_or, if◌then◌else◌, slice_get, take, drop, IfSome, IsSome}
 use Rattle.std.specs.List.{list_all, list_any}
 use Rattle.std.specs.Str.{is_utf8}
-use Rattle.std.proofs.lemmas.Bool.{and_parts}
 use Rattle.geo_text.specs.Numbers.{number_of}
-use Rattle.geo_text.specs.Tokens.{is_ascii}
 use Rattle.geo_text.specs.Words.{words_of, first_word, after_word}
-use Rattle.geo_text.proofs.Ascii.{is_ascii-all}
 use Rattle.geo_layer.specs.Json.{data_of, wanted}
 use Rattle.geo_layer.specs.Langs.{langs_of}
-use Rattle.geo_layer.specs.LayerText.{layer_of, is_simple_layer}
+use Rattle.geo_layer.specs.LayerText.{layer_of}
 use Rattle.geo_layer.specs.declared.head.Head.{Head}
-use Rattle.geo_query.specs.Query.{asks_language}
 use Rattle.feature_reader.specs.Feature.{feature_of_data, feature_of}
-use Rattle.feature_reader.specs.Simple.{is_simple_feature}
 use Rattle.feature_reader.specs.declared.feature.FeatureFault.{FeatureFault}
 use Rattle.feature_reader.specs.declared.feature.FeatureFault.TheVariants as fault
 use Rattle.feature_reader.proofs.Zooms.{AtZoom, bind_ok, wanted_ok, feature_zoom}
 use Rattle.session_text.specs.Lines.{longest, line_text, is_skipped, next_field}
-use Rattle.session_text.specs.Session.{SessionView, supported, one_number, two_numbers, are_simple, of_layer, of_feature, title_line, langs_line, layer_line, put_line, drop_line, load_line, limit_line, is_asking, ask_line, bare_line, word_of, line_of_word, body_line, head_line, already, staged_line, line_at, after_item, step_of, IsLineOf}
+use Rattle.session_text.specs.Session.{SessionView, one_number, two_numbers, of_layer, of_feature, title_line, langs_line, layer_line, put_line, drop_line, load_line, limit_line, is_asking, ask_line, bare_line, word_of, line_of_word, body_line, head_line, already, staged_line, line_at, after_item, step_of, IsLineOf}
 use Rattle.session_text.specs.Reading.{reading_after, reading_from, after_step}
 use Rattle.session_text.specs.declared.body.BodyLine.{BodyLine}
 use Rattle.session_text.specs.declared.body.BodyLine.TheVariants.{Put, Drop, Load, Limit, Publish, Ask}
@@ -32,7 +27,6 @@ use Rattle.session_text.specs.declared.session.Stage.TheVariants as at
 use Rattle.session_text.specs.declared.session.Step.TheVariants.{Ready, Last}
 use Rattle.session_text.specs.declared.why.Why.{Why}
 use Rattle.session_text.specs.declared.why.Why.TheVariants as why
-use Rattle.session_text.proofs.Ascii.{after-ascii, skipped-ascii}
 
 -- ---- steps that gave something
 
@@ -59,58 +53,48 @@ OfBody head End = ⊤
 put_fits : (head : Head) (text : List ℕ) (item : Item) → put_line head text ≡ Ok item → OfBody head item
 put_fits head text item e =
     let (n, is_n, e₁) = bind_ok (ok_or (number_of (first_word (next_field text))) why.Form) _ item e in
-    let (u, is_u, e₂) = bind_ok (supported text (are_simple is_simple_feature (next_field (next_field text)))) _ item e₁ in
-    let (layer, is_layer, e₃) = bind_ok (ok_or (slice_get head.layers n) why.Number) _ item e₂ in
-    let (f, is_f, e₄) = bind_ok (of_feature (feature_of layer head.langs (next_field (next_field text)))) _ item e₃ in
-    let (d, is_d, e₅) = bind_ok (ok_or (data_of (next_field (next_field text))) fault.Json) (λ d. feature_of_data layer head.langs d) f (feature_ok (feature_of layer head.langs (next_field (next_field text))) f is_f) in
+    let (layer, is_layer, e₂) = bind_ok (ok_or (slice_get head.layers n) why.Number) _ item e₁ in
+    let (f, is_f, e₃) = bind_ok (of_feature (feature_of layer head.langs (next_field (next_field text)))) _ item e₂ in
+    let (d, is_d, e₄) = bind_ok (ok_or (data_of (next_field (next_field text))) fault.Json) (λ d. feature_of_data layer head.langs d) f (feature_ok (feature_of layer head.langs (next_field (next_field text))) f is_f) in
     let there : slice_get head.layers n ≡ Some layer = there_ok (slice_get head.layers n) layer why.Number is_layer in
-    let at_zoom : AtZoom layer.zoom f = feature_zoom layer head.langs d f e₅ in
-    let same : Body (Put n f) ≡ item = cc e₄ in
+    let at_zoom : AtZoom layer.zoom f = feature_zoom layer head.langs d f e₄ in
+    let same : Body (Put n f) ≡ item = cc e₃ in
     subst (OfBody head) same (subst (λ o. IsSome o × IfSome o (λ l. AtZoom l.zoom f)) (sym there) (refl, at_zoom))
 
 drop_fits : (head : Head) (text : List ℕ) (item : Item) → drop_line head text ≡ Ok item → OfBody head item
 drop_fits head text item e =
     let (n, is_n, e₁) = bind_ok (two_numbers text) _ item e in
-    let (u, is_u, e₂) = bind_ok (supported text true) _ item e₁ in
-    let (v, is_v, e₃) = bind_ok (wanted (nat_lt n.0 (length head.layers) && nat_lt n.1 67108864) why.Number) _ item e₂ in
-    let same : Body (Drop n.0 n.1) ≡ item = cc e₃ in
+    let (u, is_u, e₂) = bind_ok (wanted (nat_lt n.0 (length head.layers) && nat_lt n.1 67108864) why.Number) _ item e₁ in
+    let same : Body (Drop n.0 n.1) ≡ item = cc e₂ in
     subst (OfBody head) same tt
 
 load_fits : (s : SessionView) (text : List ℕ) (item : Item) → load_line s text ≡ Ok item → OfBody s.head item
 load_fits s text item e =
     let (n, is_n, e₁) = bind_ok (two_numbers text) _ item e in
-    let (u, is_u, e₂) = bind_ok (supported text true) _ item e₁ in
-    let (v, is_v, e₃) = bind_ok (wanted (nat_lt n.1 (length s.head.layers)) why.Number) _ item e₂ in
-    let (w, is_w, e₄) = bind_ok (wanted (nat_lt n.0 s.feeds && not (list_any (λ f. f == n.0) s.named)) why.Feed) _ item e₃ in
-    let same : Body (Load n.0 n.1) ≡ item = cc e₄ in
+    let (u, is_u, e₂) = bind_ok (wanted (nat_lt n.1 (length s.head.layers)) why.Number) _ item e₁ in
+    let (v, is_v, e₃) = bind_ok (wanted (nat_lt n.0 s.feeds && not (list_any (λ f. f == n.0) s.named)) why.Feed) _ item e₂ in
+    let same : Body (Load n.0 n.1) ≡ item = cc e₃ in
     subst (OfBody s.head) same tt
 
 limit_fits : (head : Head) (text : List ℕ) (item : Item) → limit_line text ≡ Ok item → OfBody head item
 limit_fits head text item e =
     let (n, is_n, e₁) = bind_ok (one_number text) _ item e in
-    let (u, is_u, e₂) = bind_ok (supported text true) _ item e₁ in
-    let (v, is_v, e₃) = bind_ok (wanted (nat_le 1 n && nat_le n 8388608) why.Number) _ item e₂ in
-    let same : Body (Limit n) ≡ item = cc e₃ in
+    let (u, is_u, e₂) = bind_ok (wanted (nat_le 1 n && nat_le n 8388608) why.Number) _ item e₁ in
+    let same : Body (Limit n) ≡ item = cc e₂ in
     subst (OfBody head) same tt
 
 ask_fits : (head : Head) (round : List BodyLine) (text : List ℕ) (item : Item) → ask_line round text ≡ Ok item → OfBody head item
 ask_fits head round text item e =
     let (lane, is_lane, e₁) = bind_ok (ok_or (number_of (first_word (next_field text))) why.Form) _ item e in
-    let (u, is_u, e₂) = bind_ok (supported text (not (asks_language (after_word (next_field text))))) _ item e₁ in
-    let (v, is_v, e₃) = bind_ok (wanted (nat_lt lane 8) why.Number) _ item e₂ in
-    let (w, is_w, e₄) = bind_ok (wanted (nat_lt (count_by is_asking round) 4096) why.Asks) _ item e₃ in
-    let whole = and_parts (is_ascii text) (not (asks_language (after_word (next_field text)))) (wanted_ok (is_ascii text && not (asks_language (after_word (next_field text)))) why.NotYet u is_u) in
-    let low = ltb-true lane 8 (wanted_ok (nat_lt lane 8) why.Number v is_v) in
-    let field : is_ascii (next_field text) ≡ true = skipped-ascii (after_word text) (after-ascii (λ b. b == 32) text whole.0) in
-    let query = is_ascii-all (after_word (next_field text)) (after-ascii (λ b. b == 32) (next_field text) field) in
-    let same : Body (Ask lane (after_word (next_field text))) ≡ item = cc e₄ in
-    subst (OfBody head) same (low, query)
+    let (u, is_u, e₂) = bind_ok (wanted (nat_lt lane 8) why.Number) _ item e₁ in
+    let (v, is_v, e₃) = bind_ok (wanted (nat_lt (count_by is_asking round) 4096) why.Asks) _ item e₂ in
+    let same : Body (Ask lane (after_word (next_field text))) ≡ item = cc e₃ in
+    subst (OfBody head) same (ltb-true lane 8 (wanted_ok (nat_lt lane 8) why.Number u is_u))
 
 bare_fits : (head : Head) (said item : Item) (text : List ℕ) → OfBody head said → bare_line said text ≡ Ok item → OfBody head item
 bare_fits head said item text of_body e =
     let (u, is_u, e₁) = bind_ok (wanted (nat_lt (length (words_of text)) 2) why.Form) _ item e in
-    let (v, is_v, e₂) = bind_ok (supported text true) _ item e₁ in
-    let same : said ≡ item = cc e₂ in
+    let same : said ≡ item = cc e₁ in
     subst (OfBody head) same of_body
 
 word_fits : (s : SessionView) (text : List ℕ) (w : Option Word) (item : Item) → line_of_word s text w ≡ Ok item → OfBody s.head item
@@ -151,16 +135,14 @@ title_fits head text item e =
 
 langs_fits : (head : Head) (text : List ℕ) (item : Item) → langs_line text ≡ Ok item → Fitting head item
 langs_fits head text item e =
-    let (u, is_u, e₁) = bind_ok (supported text true) _ item e in
-    let (langs, is_langs, e₂) = bind_ok (ok_or (langs_of (after_word text)) why.Lang) _ item e₁ in
-    let same : Langs langs ≡ item = cc e₂ in
+    let (langs, is_langs, e₁) = bind_ok (ok_or (langs_of (after_word text)) why.Lang) _ item e in
+    let same : Langs langs ≡ item = cc e₁ in
     subst (Fitting head) same tt
 
 layer_fits : (head : Head) (text : List ℕ) (item : Item) → layer_line head.layers text ≡ Ok item → Fitting head item
 layer_fits head text item e =
-    let (u, is_u, e₁) = bind_ok (supported text (are_simple is_simple_layer (next_field text))) _ item e in
-    let (found, is_found, e₂) = bind_ok (of_layer (layer_of head.layers (next_field text))) _ item e₁ in
-    let same : Layer found ≡ item = cc e₂ in
+    let (found, is_found, e₁) = bind_ok (of_layer (layer_of head.layers (next_field text))) _ item e in
+    let same : Layer found ≡ item = cc e₁ in
     subst (Fitting head) same tt
 
 head_fits : (s : SessionView) (first : Bool) (text : List ℕ) (item : Item) → head_line s first text ≡ Ok item → Fitting s.head item

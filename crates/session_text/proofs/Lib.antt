@@ -1,8 +1,8 @@
 pub mod Advance
-pub mod Ascii
 pub mod Bodies
 pub mod Fronts
 pub mod LoadFacts
 pub mod Numbered
 mod PutFacts
+mod Returns
 mod Rooms

@@ -1,20 +1,16 @@
 -- The grammar of a session: what each line says at its place, or its first fault.
-use Rattle.std.specs.Prelude.{◌≡◌, ℕ, ◌<◌, ◌≤◌, ⊤, Bool, true, false, List, [], ◌∷◌, ◌++◌, ◌&&◌, ◌==◌, not, nat_lt, nat_le, length, take, drop, codes, bytes_eq, count_by, slice_get, if◌then◌else◌, All, IfSome, IsSome, IsAscii, Option, Some, None, Result, Ok, Err, ok_or}
+use Rattle.std.specs.Prelude.{◌≡◌, ℕ, ◌<◌, ◌≤◌, ⊤, Bool, true, false, List, [], ◌∷◌, ◌++◌, ◌&&◌, ◌==◌, not, nat_lt, nat_le, length, take, drop, codes, bytes_eq, count_by, slice_get, if◌then◌else◌, All, IfSome, IsSome, Option, Some, None, Result, Ok, Err, ok_or}
 use Rattle.std.specs.List.{list_all, list_any}
 use Rattle.std.specs.Str.{is_utf8}
-use Rattle.serde_json.specs.Data.{Data}
 use Rattle.geo_text.specs.Numbers.{number_of, numbers_of}
-use Rattle.geo_text.specs.Tokens.{is_ascii}
 use Rattle.geo_text.specs.Words.{words_of, first_word, after_word}
-use Rattle.geo_layer.specs.Json.{data_of, ◌>>=◌, wanted}
+use Rattle.geo_layer.specs.Json.{◌>>=◌, wanted}
 use Rattle.geo_layer.specs.declared.head.Head.{Head}
 use Rattle.geo_layer.specs.Langs.{langs_of}
 use Rattle.geo_layer.specs.Layer.{LayerView}
-use Rattle.geo_layer.specs.LayerText.{layer_of, is_simple_layer, last_zoom}
+use Rattle.geo_layer.specs.LayerText.{layer_of, last_zoom}
 use Rattle.geo_layer.specs.declared.layer.LayerFault.{LayerFault}
-use Rattle.geo_query.specs.Query.{asks_language}
 use Rattle.feature_reader.specs.Feature.{feature_of}
-use Rattle.feature_reader.specs.Simple.{is_simple_feature}
 use Rattle.feature_reader.specs.declared.feature.FeatureFault.{FeatureFault}
 use Rattle.session_text.specs.Lines.{longest, line_text, is_skipped, next_field}
 use Rattle.session_text.specs.declared.body.BodyLine.{BodyLine}
@@ -46,10 +42,6 @@ start feeds kind = record { stage = at.BeforeHead; head = record { langs = []; l
 
 -- ---- tests and fields
 
--- what this program can't read yet: a text that isn't ASCII, and what else the test refuses
-abbrev pub supported : List ℕ → Bool → Result (Unit {0}) Why
-supported text test = wanted (is_ascii text && test) why.NotYet
-
 -- the numbers of a line after its word
 abbrev pub numbers_after : List ℕ → Result (List ℕ) Why
 numbers_after text = ok_or (numbers_of (words_of (after_word text))) why.Form
@@ -72,10 +64,6 @@ one_number text = numbers_after text >>= λ numbers. only_one numbers
 abbrev pub two_numbers : List ℕ → Result (ℕ × ℕ) Why
 two_numbers text = numbers_after text >>= λ numbers. only_two numbers
 
--- where there is JSON, it asks for nothing that this program doesn't read
-abbrev pub are_simple : (Data → Bool) → List ℕ → Bool
-are_simple test json = elim (data_of json) [ None ↦ true | Some d ↦ test d ]
-
 -- a layer's fault as that of a line
 abbrev pub of_layer : {A : Type 0} → Result A LayerFault → Result A Why
 of_layer (Ok x) = Ok x
@@ -94,11 +82,11 @@ title_line text = wanted (bytes_eq (take 8 text) (codes "carmen 1") && list_all 
 
 -- `langs` and 1 to 127 codes
 abbrev pub langs_line : List ℕ → Result Item Why
-langs_line text = supported text true >>= λ _. ok_or (langs_of (after_word text)) why.Lang >>= λ codes. Ok (Langs codes)
+langs_line text = ok_or (langs_of (after_word text)) why.Lang >>= λ codes. Ok (Langs codes)
 
 -- `layer JSON`
 abbrev pub layer_line : List LayerView → List ℕ → Result Item Why
-layer_line layers text = supported text (are_simple is_simple_layer (next_field text)) >>= λ _. of_layer (layer_of layers (next_field text)) >>= λ layer. Ok (Layer layer)
+layer_line layers text = of_layer (layer_of layers (next_field text)) >>= λ layer. Ok (Layer layer)
 
 -- ---- the lines of the body
 
@@ -107,7 +95,6 @@ abbrev pub put_line : Head → List ℕ → Result Item Why
 put_line head text =
     let json = next_field (next_field text) in
     ok_or (number_of (first_word (next_field text))) why.Form >>= λ n.
-    supported text (are_simple is_simple_feature json) >>= λ _.
     ok_or (slice_get head.layers n) why.Number >>= λ layer.
     of_feature (feature_of layer head.langs json) >>= λ f.
     Ok (Body (Put n f))
@@ -116,7 +103,6 @@ put_line head text =
 abbrev pub drop_line : Head → List ℕ → Result Item Why
 drop_line head text =
     two_numbers text >>= λ n.
-    supported text true >>= λ _.
     wanted (nat_lt n.0 (length head.layers) && nat_lt n.1 67108864) why.Number >>= λ _.
     Ok (Body (Drop n.0 n.1))
 
@@ -124,7 +110,6 @@ drop_line head text =
 abbrev pub load_line : SessionView → List ℕ → Result Item Why
 load_line session text =
     two_numbers text >>= λ n.
-    supported text true >>= λ _.
     wanted (nat_lt n.1 (length session.head.layers)) why.Number >>= λ _.
     wanted (nat_lt n.0 session.feeds && not (list_any (λ f. f == n.0) session.named)) why.Feed >>= λ _.
     Ok (Body (Load n.0 n.1))
@@ -133,7 +118,6 @@ load_line session text =
 abbrev pub limit_line : List ℕ → Result Item Why
 limit_line text =
     one_number text >>= λ n.
-    supported text true >>= λ _.
     wanted (nat_le 1 n && nat_le n 8388608) why.Number >>= λ _.
     Ok (Body (Limit n))
 
@@ -145,16 +129,14 @@ is_asking line = false
 -- `ask LANE QUERY`: at most 4,096 in a round
 abbrev pub ask_line : List BodyLine → List ℕ → Result Item Why
 ask_line round text =
-    let query = after_word (next_field text) in
     ok_or (number_of (first_word (next_field text))) why.Form >>= λ lane.
-    supported text (not (asks_language query)) >>= λ _.
     wanted (nat_lt lane 8) why.Number >>= λ _.
     wanted (nat_lt (count_by is_asking round) 4096) why.Asks >>= λ _.
-    Ok (Body (Ask lane query))
+    Ok (Body (Ask lane (after_word (next_field text))))
 
 -- a line of one word
 abbrev pub bare_line : Item → List ℕ → Result Item Why
-bare_line item text = wanted (nat_lt (length (words_of text)) 2) why.Form >>= λ _. supported text true >>= λ _. Ok item
+bare_line item text = wanted (nat_lt (length (words_of text)) 2) why.Form >>= λ _. Ok item
 
 -- the word of a line of the body
 abbrev pub word_of : List ℕ → Option Word
@@ -250,10 +232,10 @@ Fits session (Layer layer) = (length session.head.layers < 16) × (last_zoom ses
 Fits session (Body line) = is_asking line ≡ true → count_by is_asking session.round < 4096
 Fits session item = ⊤
 
--- what each line of the body keeps: the layer of a put is one of the head, and the tiles of its feature have its zoom; the lane of an ask is below 8, and its text is ASCII
+-- what each line of the body keeps: the layer of a put is one of the head, and the tiles of its feature have its zoom; the lane of an ask is below 8
 abbrev pub IsLineOf : Head → BodyLine → Type 0
 IsLineOf head (Put layer f) = IsSome (slice_get head.layers layer) × IfSome (slice_get head.layers layer) (λ l. All (λ t. t.z ≡ l.zoom) f.tiles)
-IsLineOf head (Ask lane text) = (lane < 8) × IsAscii text
+IsLineOf head (Ask lane text) = lane < 8
 IsLineOf head line = ⊤
 
 -- the fault is found before any room is asked for, by a session that isn't spent
@@ -263,4 +245,9 @@ needs_no_room why.Utf8 = true
 needs_no_room why.Head = true
 needs_no_room why.Word = true
 needs_no_room why.Form = true
-needs_no_room fault = false
+needs_no_room why.Lang = false
+needs_no_room (why.Layer fault) = false
+needs_no_room why.Number = true
+needs_no_room why.Feed = true
+needs_no_room (why.Feature fault) = false
+needs_no_room why.Asks = true

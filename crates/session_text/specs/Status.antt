@@ -5,7 +5,7 @@ use Rattle.geo_layer.specs.declared.layer.LayerFault.TheVariants as layer
 use Rattle.feature_reader.specs.declared.feature.FeatureFault.{FeatureFault}
 use Rattle.feature_reader.specs.declared.feature.FeatureFault.TheVariants as feature
 use Rattle.session_text.specs.declared.why.Why.{Why}
-use Rattle.session_text.specs.declared.why.Why.TheVariants.{Long, Utf8, Head, Word, Form, Lang, Layer, Number, Feed, Feature, Asks, NotYet}
+use Rattle.session_text.specs.declared.why.Why.TheVariants.{Long, Utf8, Head, Word, Form, Lang, Layer, Number, Feed, Feature, Asks}
 use Rattle.session_text.specs.declared.status.Status.{Status}
 use Rattle.session_text.specs.declared.status.Status.TheVariants.{Done, Usage, BadLine, Unended, TooMuch, ReadFault, WriteFault, Memory}
 
@@ -43,7 +43,6 @@ why_text Number = codes "8 Number"
 why_text Feed = codes "9 Feed"
 why_text (Feature fault) = codes "10 Feature " ++ feature_fault_text fault
 why_text Asks = codes "11 Asks"
-why_text NotYet = codes "12 NotYet"
 
 -- the exit status of the process
 abbrev pub exit_number : Status → ℕ

@@ -1,10 +1,7 @@
 //! Reads the lines of a session's body.
 
-ghost use Rattle.std.specs.Prelude.{◌≡◌, false, List, nat_eq, codes, count_by, Ok, Err, IfOk};
-ghost use Rattle.std.specs.List.{list_any, starts_with};
-ghost use Rattle.geo_text.specs.Words.{words_of};
+ghost use Rattle.std.specs.Prelude.{◌≡◌, false, List, count_by, Ok, Err, IfOk};
 ghost use Rattle.geo_base.specs.declared.refusal.Refused.TheVariants as refused;
-ghost use Rattle.geo_query.specs.Query.{asks_language};
 ghost use Rattle.session_text.specs.Session.{put_line, drop_line, limit_line, ask_line, bare_line, is_asking, needs_no_room};
 ghost use Rattle.session_text.specs.declared.body.BodyLine.{BodyLine};
 ghost use Rattle.session_text.specs.declared.why.Why.{Why};
@@ -15,11 +12,10 @@ use crate::item::Item;
 use crate::why::Why;
 use feature_reader::feature::FeatureFault;
 use feature_reader::read_feature::feature_of_value;
-use feature_reader::simple::is_simple_feature;
 use geo_base::refusal::Refused;
 use geo_layer::head::Head;
 use geo_layer::json::read_json;
-use geo_text::cut::{after_word, ascii, before, first_word, next_word};
+use geo_text::cut::{after_word_of, first_word, skip_spaces_of};
 use geo_text::number::number;
 use geo_text::text::Text;
 use std::alloc::Global;
@@ -37,19 +33,10 @@ pub fn read_put(alloc: Global, head: &Head, text: &[u8]) -> Result<Item, Refused
     let Some(place) = number(first_word(fields)) else {
         return Err(Refused::Fault(Why::Form));
     };
-    if ascii(text).is_none() {
-        return Err(Refused::Fault(Why::NotYet));
-    }
-    let value = read_json(alloc, next_field(fields))?;
-    if let Some(value) = &value {
-        if !is_simple_feature(value) {
-            return Err(Refused::Fault(Why::NotYet));
-        }
-    }
     if place >= head.layers.len() as u64 {
         return Err(Refused::Fault(Why::Number));
     }
-    let Some(value) = value else {
+    let Some(value) = read_json(alloc, next_field(fields))? else {
         return Err(Refused::Fault(Why::Feature(FeatureFault::Json)));
     };
     match feature_of_value(alloc, head.layers.at(place as usize), &head.langs, &value) {
@@ -69,9 +56,6 @@ pub fn read_drop(head: &Head, text: &[u8]) -> Result<Item, Why>
     let Some((layer, id)) = two_numbers(text) else {
         return Err(Why::Form);
     };
-    if ascii(text).is_none() {
-        return Err(Why::NotYet);
-    }
     if layer >= head.layers.len() as u64 {
         return Err(Why::Number);
     }
@@ -91,9 +75,6 @@ pub fn read_limit(text: &[u8]) -> Result<Item, Why>
     let Some(n) = one_number(text) else {
         return Err(Why::Form);
     };
-    if ascii(text).is_none() {
-        return Err(Why::NotYet);
-    }
     if n < 1 {
         return Err(Why::Number);
     }
@@ -103,46 +84,16 @@ pub fn read_limit(text: &[u8]) -> Result<Item, Why>
     Ok(Item::Body(BodyLine::Limit { n }))
 }
 
-/// Whether one of these words asks for a language.
-fn has_language(words: &[u8]) -> bool
-    ensures { result ≡ list_any (λ word. starts_with nat_eq word (codes "lang=")) (words_of words.now) }
-{
-    let mut rest = words;
-    while let Some((word, more)) = next_word(rest) {
-        if word.starts_with(b"lang=") {
-            return true;
-        }
-        rest = more;
-    }
-    false
-}
-
-/// Whether one of a query's options asks for a language.
-fn asks_language(line: &[u8]) -> bool
-    ensures { result ≡ asks_language line.now }
-{
-    line.contains(&b'|') && has_language(before(line, b'|'))
-}
-
 /// `ask LANE QUERY`, in a round that has so many asks.
-pub fn read_ask(alloc: Global, asks: u64, text: &[u8]) -> Result<Item, Refused<Why>>
+pub fn read_ask(alloc: Global, asks: u64, text: &str) -> Result<Item, Refused<Why>>
     ensures ok { (round : List BodyLine) → count_by is_asking round ≡ asks → IfOk result (λ item. ask_line round text.now ≡ Ok item) }
     ensures fault { (round : List BodyLine) → count_by is_asking round ≡ asks → (why : Why) → result ≡ Err (refused.Fault why) → ask_line round text.now ≡ Err why }
-    ensures memory { result ≡ Err refused.Memory → (round : List BodyLine) → (why : Why) → ask_line round text.now ≡ Err why → needs_no_room why ≡ false }
+    ensures memory { result ≡ Err refused.Memory → (round : List BodyLine) → count_by is_asking round ≡ asks → (why : Why) → ask_line round text.now ≡ Err why → needs_no_room why ≡ false }
 {
-    let fields = next_field(text);
-    let Some(lane) = number(first_word(fields)) else {
+    let fields = skip_spaces_of(after_word_of(text));
+    let Some(lane) = number(first_word(fields.as_bytes())) else {
         return Err(Refused::Fault(Why::Form));
     };
-    if ascii(text).is_none() {
-        return Err(Refused::Fault(Why::NotYet));
-    }
-    let Some(query) = ascii(after_word(fields)) else {
-        return Err(Refused::Fault(Why::NotYet));
-    };
-    if asks_language(query.as_bytes()) {
-        return Err(Refused::Fault(Why::NotYet));
-    }
     if lane >= 8 {
         return Err(Refused::Fault(Why::Number));
     }
@@ -151,7 +102,7 @@ pub fn read_ask(alloc: Global, asks: u64, text: &[u8]) -> Result<Item, Refused<W
     }
     Ok(Item::Body(BodyLine::Ask {
         lane: lane as u8,
-        text: Text::of(alloc, query)?,
+        text: Text::of(alloc, after_word_of(fields))?,
     }))
 }
 
@@ -161,9 +112,6 @@ pub fn read_bare(item: Item, text: &[u8]) -> Result<Item, Why>
 {
     if !is_bare(text) {
         return Err(Why::Form);
-    }
-    if ascii(text).is_none() {
-        return Err(Why::NotYet);
     }
     Ok(item)
 }

@@ -1,6 +1,6 @@
 //! The fields of a line.
 
-ghost use Rattle.std.specs.Prelude.{◌≡◌, ◌==◌, length, Some, None, ok_or, nat_lt};
+ghost use Rattle.std.specs.Prelude.{◌≡◌, ◌==◌, true, false, length, Some, None, MatchOption, ok_or, nat_lt};
 ghost use Rattle.std.specs.List.{list_all};
 ghost use Rattle.std.specs.Str.{is_utf8};
 ghost use Rattle.geo_text.specs.Words.{words_of};
@@ -11,18 +11,24 @@ ghost use Rattle.session_text.specs.declared.why.Why.TheVariants as why;
 use geo_text::cut::{after_word, next_word, skip_spaces};
 use geo_text::number::number;
 
-/// Whether the bytes are UTF-8.
-pub fn is_utf8(bytes: &[u8]) -> bool
-    ensures { result ≡ is_utf8 bytes.now }
+/// The bytes as a text; None where they aren't UTF-8.
+pub fn utf8(bytes: &[u8]) -> Option<&str>
+    ensures { MatchOption result (is_utf8 bytes.now ≡ false) (λ text. (is_utf8 bytes.now ≡ true) × (text.now ≡ bytes.now)) }
 {
-    std::str::from_utf8(bytes).is_ok()
+    match std::str::from_utf8(bytes) {
+        Ok(text) => Some(text),
+        Err(_) => None,
+    }
 }
 
 /// The line without one carriage return at its end.
-pub fn line_text(line: &[u8]) -> &[u8]
+pub fn line_text(line: &str) -> &str
     ensures { result.now ≡ line_text line.now }
 {
-    line.strip_suffix(b"\r").unwrap_or(line)
+    match line.strip_suffix('\r') {
+        Some(text) => text,
+        None => line,
+    }
 }
 
 /// Whether each byte is a space.

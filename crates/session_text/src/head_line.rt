@@ -13,8 +13,8 @@ use geo_layer::json::read_json;
 use geo_layer::langs::read_langs;
 use geo_layer::layer::LayerFault;
 use geo_layer::layers::Layers;
-use geo_layer::read_layer::{is_simple_layer, layer_of_value};
-use geo_text::cut::{after_word, ascii};
+use geo_layer::read_layer::layer_of_value;
+use geo_text::cut::after_word_of;
 use std::alloc::Global;
 
 /// The title of a session, `carmen 1`, which spaces may follow.
@@ -30,18 +30,12 @@ pub fn read_title(text: &[u8]) -> Result<Item, Refused<Why>>
 }
 
 /// The languages of a line.
-pub fn read_langs_line(alloc: Global, text: &[u8]) -> Result<Item, Refused<Why>>
+pub fn read_langs_line(alloc: Global, text: &str) -> Result<Item, Refused<Why>>
     ensures ok { IfOk result (λ item. langs_line text.now ≡ Ok item) }
     ensures fault { (why : Why) → result ≡ Err (refused.Fault why) → langs_line text.now ≡ Err why }
     ensures memory { result ≡ Err refused.Memory → (why : Why) → langs_line text.now ≡ Err why → needs_no_room why ≡ false }
 {
-    let Some(_) = ascii(text) else {
-        return Err(Refused::Fault(Why::NotYet));
-    };
-    let Some(codes) = ascii(after_word(text)) else {
-        return Err(Refused::Fault(Why::NotYet));
-    };
-    match read_langs(alloc, codes) {
+    match read_langs(alloc, after_word_of(text)) {
         Ok(langs) => Ok(Item::Langs(langs)),
         Err(Refused::Fault(_)) => Err(Refused::Fault(Why::Lang)),
         Err(Refused::Memory) => Err(Refused::Memory),
@@ -55,15 +49,9 @@ pub fn read_layer_line(alloc: Global, layers: &Layers, text: &[u8]) -> Result<It
     ensures fault { (why : Why) → result ≡ Err (refused.Fault why) → layer_line layers.now text.now ≡ Err why }
     ensures memory { result ≡ Err refused.Memory → (why : Why) → layer_line layers.now text.now ≡ Err why → needs_no_room why ≡ false }
 {
-    if ascii(text).is_none() {
-        return Err(Refused::Fault(Why::NotYet));
-    }
     let Some(value) = read_json(alloc, next_field(text))? else {
         return Err(Refused::Fault(Why::Layer(LayerFault::Json)));
     };
-    if !is_simple_layer(&value) {
-        return Err(Refused::Fault(Why::NotYet));
-    }
     match layer_of_value(alloc, &value, layers) {
         Ok(layer) => Ok(Item::Layer(layer)),
         Err(Refused::Fault(fault)) => Err(Refused::Fault(Why::Layer(fault))),

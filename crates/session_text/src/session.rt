@@ -11,7 +11,7 @@ ghost use Rattle.session_text.specs.declared.why.Why.{Why};
 
 use crate::body::{BodyLine, Round};
 use crate::body_line::{read_ask, read_bare, read_drop, read_limit, read_put};
-use crate::fields::{is_skipped, is_utf8, line_text, two_numbers};
+use crate::fields::{is_skipped, line_text, two_numbers, utf8};
 use crate::head_line::{read_langs_line, read_layer_line, read_title};
 use crate::item::{Item, Word, word_of};
 use crate::why::Why;
@@ -19,7 +19,7 @@ use geo_base::refusal::{Memory, Refused};
 use geo_layer::head::Head;
 use geo_layer::langs::Langs;
 use geo_layer::layers::Layers;
-use geo_text::cut::{ascii, first_word};
+use geo_text::cut::first_word;
 use std::alloc::Global;
 use std::marker::Model;
 
@@ -123,8 +123,8 @@ impl Session {
 
     /// Takes the next line, without its line feed, and says what it does; or its first fault, with
     /// which the session is spent: it answers that fault to every line from then on. After want of
-    /// memory the session is as before. The faults `Long`, `Utf8`, `Head`, `Word` and `Form` are found before any room is
-    /// asked for, and so is the fault of a session that is spent.
+    /// memory the session is as before. All faults but `Lang`, `Layer` and `Feature` are found before any room is asked
+    /// for, and so is the fault of a session that is spent.
     ///
     /// No line is taken after the one that ended the session.
     pub fn line(&mut self, bytes: &[u8]) -> Result<Step, Refused<Why>>
@@ -159,15 +159,15 @@ impl Session {
         if bytes.len() > LONGEST {
             return Err(Refused::Fault(Why::Long));
         }
-        if !is_utf8(bytes) {
+        let Some(line) = utf8(bytes) else {
             return Err(Refused::Fault(Why::Utf8));
-        }
-        let text = line_text(bytes);
-        if is_skipped(text) {
+        };
+        let text = line_text(line);
+        if is_skipped(text.as_bytes()) {
             return Ok(Item::Skipped);
         }
         match self.stage {
-            Stage::BeforeHead => read_title(text),
+            Stage::BeforeHead => read_title(text.as_bytes()),
             Stage::AfterTitle => self.read_head(true, text),
             Stage::InHead => self.read_head(false, text),
             Stage::InBody | Stage::Ended => self.read_body(text),
@@ -176,18 +176,19 @@ impl Session {
     }
 
     /// What a line of the head says; languages are listed directly after the title alone.
-    fn read_head(&self, first: bool, text: &[u8]) -> Result<Item, Refused<Why>>
+    fn read_head(&self, first: bool, text: &str) -> Result<Item, Refused<Why>>
         ensures ok { IfOk result (λ item. head_line self.now first text.now ≡ Ok item) }
         ensures fits { IfOk result (λ item. Fits self.now item) }
         ensures fault { (why : Why) → result ≡ Err (refused.Fault why) → head_line self.now first text.now ≡ Err why }
         ensures memory { result ≡ Err refused.Memory → (why : Why) → head_line self.now first text.now ≡ Err why → needs_no_room why ≡ false }
     {
-        let word = first_word(text);
+        let bytes = text.as_bytes();
+        let word = first_word(bytes);
         if first && word == b"langs".as_slice() {
             return read_langs_line(self.alloc, text);
         }
         if word == b"layer".as_slice() {
-            return read_layer_line(self.alloc, &self.head.layers, text);
+            return read_layer_line(self.alloc, &self.head.layers, bytes);
         }
         if self.head.layers.len() == 0 {
             return Err(Refused::Fault(Why::Word));
@@ -196,21 +197,22 @@ impl Session {
     }
 
     /// What a line of the body says.
-    fn read_body(&self, text: &[u8]) -> Result<Item, Refused<Why>>
+    fn read_body(&self, text: &str) -> Result<Item, Refused<Why>>
         ensures ok { IfOk result (λ item. body_line self.now text.now ≡ Ok item) }
         ensures fits { IfOk result (λ item. Fits self.now item) }
         ensures fault { (why : Why) → result ≡ Err (refused.Fault why) → body_line self.now text.now ≡ Err why }
         ensures memory { result ≡ Err refused.Memory → (why : Why) → body_line self.now text.now ≡ Err why → needs_no_room why ≡ false }
     {
-        match word_of(first_word(text)) {
-            Some(Word::Put) => read_put(self.alloc, &self.head, text),
-            Some(Word::Drop) => told(read_drop(&self.head, text)),
-            Some(Word::Load) => told(self.read_load(text)),
-            Some(Word::Limit) => told(read_limit(text)),
-            Some(Word::Publish) => told(read_bare(Item::Body(BodyLine::Publish), text)),
+        let bytes = text.as_bytes();
+        match word_of(first_word(bytes)) {
+            Some(Word::Put) => read_put(self.alloc, &self.head, bytes),
+            Some(Word::Drop) => told(read_drop(&self.head, bytes)),
+            Some(Word::Load) => told(self.read_load(bytes)),
+            Some(Word::Limit) => told(read_limit(bytes)),
+            Some(Word::Publish) => told(read_bare(Item::Body(BodyLine::Publish), bytes)),
             Some(Word::Ask) => read_ask(self.alloc, self.asks, text),
-            Some(Word::Join) => told(read_bare(Item::Join, text)),
-            Some(Word::End) => told(read_bare(Item::End, text)),
+            Some(Word::Join) => told(read_bare(Item::Join, bytes)),
+            Some(Word::End) => told(read_bare(Item::End, bytes)),
             None => Err(Refused::Fault(Why::Word)),
         }
     }
@@ -222,9 +224,6 @@ impl Session {
         let Some((feed, layer)) = two_numbers(text) else {
             return Err(Why::Form);
         };
-        if ascii(text).is_none() {
-            return Err(Why::NotYet);
-        }
         if layer >= self.head.layers.len() as u64 {
             return Err(Why::Number);
         }

@@ -107,7 +107,6 @@ fn why_text(why: Why) -> &'static str
         Why::Feed => "9 Feed",
         Why::Feature(fault) => feature_why_text(fault),
         Why::Asks => "11 Asks",
-        Why::NotYet => "12 NotYet",
     }
 }
 

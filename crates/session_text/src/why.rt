@@ -5,7 +5,7 @@ ghost use Rattle.std.specs.Prelude.{◌≡◌, ◌↔◌, IsTrue};
 use feature_reader::feature::FeatureFault;
 use geo_layer::layer::LayerFault;
 
-/// Why a line is refused, in the order in which the faults are tried, but for `NotYet`, which is tried after `Form`.
+/// Why a line is refused, in the order in which the faults are tried.
 #[derive(Clone, Copy, Debug, PartialEq, Eq)]
 pub enum Why {
     /// With a carriage return at its end it has more than 1,048,576 bytes.
@@ -30,9 +30,6 @@ pub enum Why {
     Feature(FeatureFault),
     /// It is the 4,097th line of its round that asks.
     Asks,
-    /// It asks for what this program can't do yet: a text that isn't ASCII, a language, a relevance, replacements of
-    /// tokens, a scale of scores.
-    NotYet,
 }
 
 impl Why {

@@ -1,4 +1,4 @@
-use Rattle.feature_reader.proofs.WorkedFeatures.{no_id, large_id, no_tiles, other_zoom, no_tile, unfinished, good, below_zero, broken_score, other_relevance, two_parts, empty_part, repeated_part}
+use Rattle.feature_reader.proofs.WorkedFeatures.{no_id, large_id, no_tiles, other_zoom, no_tile, unfinished, good, below_zero, broken_score, other_relevance, two_parts, empty_part, repeated_part, listed_language, unlisted_language, broken_language, low_relevance}
 use Rattle.feature_reader.proofs.laws.worked_features.Goals as goal
 
 pub returns : goal.returns
@@ -17,4 +17,8 @@ returns c =
       two_parts = two_parts;
       empty_part = empty_part;
       repeated_part = repeated_part;
+      listed_language = listed_language;
+      unlisted_language = unlisted_language;
+      broken_language = broken_language;
+      low_relevance = low_relevance;
     }

@@ -4,5 +4,5 @@ use Rattle.feature_reader.proofs.read_feature.made.Goals as goal
 
 pub from_parts-requires : goal.from_parts-requires
 from_parts-requires c =
-    rw (c.in_ok-phrases.ensures, c.from_vec.ensures ∙ c.rise.ensures)
-    (is_feature c.args.id c.args.score c.args.zoom c.args.replace.now c.args.text.now c.args.tiles.items c.requires.id c.requires.score c.requires.words c.requires.zoom c.requires.tiles c.requires.some c.requires.few)
+    rw (c.from_vec.ensures ∙ c.rise.ensures)
+    (is_feature c.args.id c.args.score c.args.zoom c.args.phrases c.args.tiles.items c.requires.id c.requires.score (record { texts = c.requires.texts; relevances = c.requires.relevances; distinct = c.requires.distinct }) c.requires.zoom c.requires.tiles c.requires.some c.requires.few)

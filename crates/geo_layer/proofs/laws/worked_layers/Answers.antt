@@ -10,4 +10,4 @@ use Rattle.geo_layer.proofs.laws.worked_layers.Goals as goal
 
 pub returns : goal.returns
 unfolding digits serde_json_on_literals chars is_utf8 encode_utf8 unicode_normalization caseless ucd_category
-returns c = record { falling = refl; capital = refl; no_object = refl; seventeenth = refl; high_zoom = refl; point = refl; stack_word = refl; stacked = refl; one_token_twice = refl; no_scale = refl; street = refl }
+returns c = record { falling = refl; capital = refl; no_object = refl; seventeenth = refl; high_zoom = refl; point = refl; stack_word = refl; stacked = refl; one_token_twice = refl; no_scale = refl; street = refl; greek = refl }

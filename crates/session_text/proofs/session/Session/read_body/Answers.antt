@@ -15,4 +15,5 @@ pub returns-in-Some-Ask-clause-memory : goal.returns-in-Some-Ask-clause-memory
 returns-in-Some-Ask-clause-memory c is why e =
     let asks : word_of (first_word c.args.text.now) ≡ Some word.Ask = search rules in
     let said : ask_line c.args.self.now.round c.args.text.now ≡ Err why = sym (ap (line_of_word c.args.self.now c.args.text.now) asks) ∙ e in
-    c.read_ask.ensures.memory is c.args.self.now.round why said
+    let counted : count_by is_asking c.args.self.now.round ≡ c.self.inside.asks = search rules in
+    c.read_ask.ensures.memory is c.args.self.now.round counted why said
