@@ -4,6 +4,7 @@ import collections
 import itertools
 import json
 import re
+import unicodedata
 
 LONGEST = 1_048_576  # the most bytes of a line
 MOST_ASKS = 4096  # of a round
@@ -17,13 +18,16 @@ IDS = 1 << 26
 
 BODY = {"put", "drop", "load", "limit", "publish", "ask", "join", "end"}
 CODE = re.compile(r"[A-Za-z][A-Za-z0-9_-]{1,15}")
+OWN_TEXT = re.compile(f"carmen:text_{CODE.pattern}")
 LAYER_FAULTS = [
-    "7 Layer 1 Json", "7 Layer 2 Name", "7 Layer 3 Zoom", "7 Layer 4 Falling", "7 Layer 5 Stack", "7 Layer 7 TooMany",
+    "7 Layer 1 Json", "7 Layer 2 Name", "7 Layer 3 Zoom", "7 Layer 4 Falling", "7 Layer 5 Stack", "7 Layer 6 Tokens",
+    "7 Layer 7 TooMany", "7 Layer 8 ScoreMax",
 ]
 FEATURE_FAULTS = [
     "10 Feature 1 Json", "10 Feature 2 Id", "10 Feature 3 Text", "10 Feature 4 Zxy", "10 Feature 5 Zoom",
-    "10 Feature 6 Score",
+    "10 Feature 6 Score", "10 Feature 7 Relev",
 ]
+WORTHS = list(itertools.product((40, 60, 80, 100), (96, 100)))  # relevances and factors
 NO_END = "no line `end`"
 REFUSED = re.compile(r"carmen: line ([1-9]\d*): (\d.*)\n")
 ANSWER = re.compile(r"gen (\d+) found (\d+)|gen (\d+) grids (\d+) (\d+)|unreadable (\d \w+)")
@@ -49,7 +53,15 @@ def id_and_rows(text):
     """The id of an accepted feature, and the most rows that it can have."""
     value = json.loads(text)
     properties = value["properties"]
-    return value["id"], len(properties["carmen:zxy"]) * (properties["carmen:text"].count(",") + 1)
+    names = ["carmen:text", *(name for name in properties if OWN_TEXT.fullmatch(name) and properties[name] is not None)]
+    return value["id"], len(properties["carmen:zxy"]) * sum(properties[name].count(",") + 1 for name in names)
+
+
+def token_count(text):
+    """The number of runs of letters, marks and numbers in the normal form of a text."""
+    folded = unicodedata.normalize("NFD", unicodedata.normalize("NFD", text).casefold())
+    kept = (c for c in folded if not "\u0300" <= c <= "\u036f")
+    return sum(inside for inside, _ in itertools.groupby(kept, lambda c: unicodedata.category(c)[0] in "LMN"))
 
 
 class Reading:
@@ -78,16 +90,12 @@ class Reading:
         if word == "langs" and self.place == "langs":
             return self.langs(rest)
         if word == "layer" and self.place != "body":
-            if not text.isascii():
-                return None, ["12 NotYet"]
-            return (None if len(self.zooms) == MOST_LAYERS else ("layer", rest)), ["12 NotYet"] + LAYER_FAULTS
+            return (None if len(self.zooms) == MOST_LAYERS else ("layer", rest)), LAYER_FAULTS
         if word not in BODY or not self.zooms:
             return None, ["4 Word"]
         return self.body_line(word, rest)
 
     def langs(self, rest):
-        if not rest.isascii():
-            return None, ["12 NotYet"]
         codes = [code for code in rest.split(" ") if code]
         if not 1 <= len(codes) <= MOST_LANGS or len(set(codes)) < len(codes) or not all(map(CODE.fullmatch, codes)):
             return None, ["6 Lang"]
@@ -113,16 +121,11 @@ class Reading:
         return (word,), []
 
     def put(self, n, text):
-        if not text.isascii():
-            return None, ["12 NotYet"]
         if n >= len(self.zooms):
-            return None, ["12 NotYet", "8 Number"]
-        return ("put", n, text), ["12 NotYet"] + FEATURE_FAULTS
+            return None, ["8 Number"]
+        return ("put", n, text), FEATURE_FAULTS
 
     def ask(self, n, text):
-        options = text.partition("|")[0].split(" ") if "|" in text else []
-        if not text.isascii() or any(word.startswith("lang=") for word in options):
-            return None, ["12 NotYet"]
         if n > 7:
             return None, ["8 Number"]
         if self.asks == MOST_ASKS:
@@ -223,7 +226,7 @@ class Standing:
         if not found:
             return None
         text = text.partition("|")[2] if "|" in text else text
-        tokens = len(re.findall("[A-Za-z0-9]+", text))
+        tokens = token_count(text)
         unreadable = "3 Long" if len(text) > 256 else "4 Empty" if tokens == 0 else "5 Tokens" if tokens > 20 else None
         if found.group(6):
             return (0, tokens) if found.group(6) in (unreadable, "1 Option", "2 Box") else None
@@ -239,7 +242,7 @@ class Standing:
         at, some_id, z, x, y, start, stop, value = link
         return (
             (at, some_id) in self.published and z == self.zooms[at] and x < 1 << z and y < 1 << z
-            and start < stop <= tokens and value in (8000 * (stop - start), 10000 * (stop - start))
+            and start < stop <= tokens and value in ((stop - start) * relevance * factor for relevance, factor in WORTHS)
         )
 
     def target_and_key(self, tokens, line):
