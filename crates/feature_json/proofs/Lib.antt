@@ -1,0 +1,6 @@
+mod TileTexts
+mod Turns
+mod Objects
+mod Owned
+mod Noted
+mod Listed
