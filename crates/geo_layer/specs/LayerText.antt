@@ -21,12 +21,12 @@ name_of d = option_and_then (λ text. if is_name text then Some text else None) 
 abbrev pub stack_of : Data → Option (Option (List (List ℕ)))
 stack_of d = option_and_then (λ items. if nat_le (length (list_of items)) 64 then option_map Some (each_of name_of (list_of items)) else None) (as_array d)
 
--- the one token of a text
+-- the token of a list of one token
 abbrev pub the_one : List (List ℕ) → Option (List ℕ)
 the_one (token ∷ []) = Some token
 the_one tokens = None
 
--- the one token of a text
+-- the token of a text that has one token
 abbrev pub one_token : List ℕ → Option (List ℕ)
 one_token text = the_one (tokens_of text)
 

@@ -11,6 +11,10 @@ new_y auto = record { tokens = codes "new" ∷ codes "y" ∷ []; auto = auto; la
 abbrev pub usa : Option (List ℕ) → Option BoxView → QueryView
 usa lang bounds = record { tokens = codes "usa" ∷ []; auto = true; lang = lang; bounds = bounds }
 
+-- a query of one token
+abbrev pub one_token : List ℕ → QueryView
+one_token token = record { tokens = token ∷ []; auto = true; lang = None; bounds = None }
+
 -- the box of one tile in the middle of the world
 abbrev pub middle : BoxView
 middle = record { z = 7; x0 = 64; y0 = 64; x1 = 64; y1 = 64 }

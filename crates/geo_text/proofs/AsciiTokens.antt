@@ -1,8 +1,7 @@
--- On ASCII the normal form is the lower-case text, and a token is a run of letters and digits.
-use Rattle.std.proofs.Common.{◌≡◌, ◌∙◌, ◌<◌, ℕ, zero, suc, Bool, true, false, cond, not, List, [], ◌∷◌, ◌++◌, map, filter, unwrap_or, refl, sym, ap, subst, nat_lt, ◌&&◌, ◌||◌, chars, encode_utf8_all, All}
+-- On ASCII the normal form is the lower-case text, and the letters and digits stand in tokens.
+use Rattle.std.proofs.Common.{◌≡◌, ◌∙◌, ◌<◌, ℕ, zero, suc, Bool, true, false, not, List, [], ◌∷◌, map, filter, refl, sym, ap, subst, nat_lt, ◌&&◌, ◌||◌, chars, encode_utf8_all, All}
 use Rattle.std.specs.Prelude.{IsAscii}
 use Rattle.std.specs.Char.{is_ascii_alphanumeric, to_ascii_lowercase}
-use Rattle.std.specs.List.{slice_split, onto_first}
 use Rattle.std.proofs.lemmas.Str.{chars-IsAscii}
 use Rattle.ucd_table.proofs.Facts.{Stepped-below, same_from_beq}
 use Rattle.ucd_table.proofs.TrieCheck.{all_below, all_below-at}
@@ -17,9 +16,8 @@ use Rattle.ucd_category.specs.declared.GeneralCategoryGroup.TheVariants.{Letter,
 use Rattle.caseless.specs.Caseless.{canonical_key}
 use Rattle.caseless.proofs.CaselessLemmas.{canonical_key-ascii, default_case_fold-ascii, All-chars}
 use Rattle.geo_text.specs.Normal.{is_token_char, is_combining, normal_chars}
-use Rattle.geo_text.specs.Tokens.{Replacements, tokens_of, runs, replacement, replaced}
-use Rattle.geo_text.specs.Words.{is_not_empty}
-use Rattle.geo_text.proofs.Joins.{encode_some}
+use Rattle.geo_text.specs.Tokens.{tokens_of, runs}
+use Rattle.geo_text.proofs.KeyTokens.{tokens_from, tokens_of_key}
 
 -- the characters of the category stand in tokens
 in_token : GeneralCategory → Bool
@@ -48,11 +46,12 @@ small : (bs : List ℕ) → IsAscii bs → Small bs
 small [] h = tt
 small (b ∷ bs) h = (h zero, small bs (λ i. h (suc i)))
 
-abbrev lower : List ℕ → List ℕ
+-- in lower case
+abbrev pub lower : List ℕ → List ℕ
 lower bs = map to_ascii_lowercase bs
 
 -- what is known of the lower case of a character
-lower_facts : (c : ℕ) → c < 128 → (is_token_char (to_ascii_lowercase c) ≡ is_ascii_alphanumeric c) × (to_ascii_lowercase c < 128) × (is_combining (to_ascii_lowercase c) ≡ false)
+pub lower_facts : (c : ℕ) → c < 128 → (is_token_char (to_ascii_lowercase c) ≡ is_ascii_alphanumeric c) × (to_ascii_lowercase c < 128) × (is_combining (to_ascii_lowercase c) ≡ false)
 unfolding good_lower
 lower_facts c below =
     let good = lower_is_good c below in
@@ -78,47 +77,8 @@ normal_chars-ascii bs ascii =
     all : All (λ c. c < 128) bs
     all = subst (All (λ c. c < 128)) (chars-IsAscii bs ascii) (All-chars bs ascii)
 
--- a character in front of the first part
-onto_first-map : (c : ℕ) (parts : List (List ℕ)) → onto_first (to_ascii_lowercase c) (map lower parts) ≡ map lower (onto_first c parts)
-onto_first-map c [] = refl
-onto_first-map c (part ∷ parts) = refl
-
--- the lower-case text is cut where the text is
-split_lower : (cs : List ℕ) → Small cs → slice_split (λ c. not (is_token_char c)) (lower cs) ≡ map lower (slice_split (λ c. not (is_ascii_alphanumeric c)) cs)
-split_lower [] h = refl
-split_lower (c ∷ cs) h =
-    rw ((lower_facts c h.0).0, split_lower cs h.1)
-    elim (is_ascii_alphanumeric c) as (λ b. cond (not b) ([] ∷ map lower (slice_split (λ c. not (is_ascii_alphanumeric c)) cs)) (onto_first (to_ascii_lowercase c) (map lower (slice_split (λ c. not (is_ascii_alphanumeric c)) cs))) ≡ map lower (cond (not b) ([] ∷ slice_split (λ c. not (is_ascii_alphanumeric c)) cs) (onto_first c (slice_split (λ c. not (is_ascii_alphanumeric c)) cs)))) [
-      | true ↦ onto_first-map c _
-      | false ↦ refl
-    ]
-
--- the characters of a part in lower case
-abbrev pub lowered : List ℕ → List ℕ
-lowered part = encode_utf8_all (lower part)
-
--- the runs of letters and digits in a text, in lower case
-abbrev pub ascii_tokens : List ℕ → List (List ℕ)
-ascii_tokens bs = filter is_not_empty (map lowered (slice_split (λ b. not (is_ascii_alphanumeric b)) bs))
-
--- lower case empties no part
-lowered_parts : (parts : List (List ℕ)) → map encode_utf8_all (filter is_not_empty (map lower parts)) ≡ filter is_not_empty (map lowered parts)
-lowered_parts [] = refl
-lowered_parts ([] ∷ parts) = lowered_parts parts
-lowered_parts ((c ∷ cs) ∷ parts) = rw (encode_some (to_ascii_lowercase c) (lower cs)) (ap (λ l. lowered (c ∷ cs) ∷ l) (lowered_parts parts))
-
--- the tokens of an ASCII text are its runs of letters and digits in lower case
-pub tokens_of-ascii : (bs : List ℕ) → IsAscii bs → tokens_of bs ≡ ascii_tokens bs
+-- the tokens of an ASCII text are those of its lower case, walked once
+pub tokens_of-ascii : (bs : List ℕ) → IsAscii bs → tokens_of bs ≡ tokens_from [] (lower bs)
 tokens_of-ascii bs ascii =
-    let here = small bs ascii in
-    ap (λ cs. map encode_utf8_all (runs is_token_char cs)) (normal_chars-ascii bs ascii)
-    ∙ ap (λ parts. map encode_utf8_all (filter is_not_empty parts)) (split_lower bs here)
-    ∙ lowered_parts (slice_split (λ b. not (is_ascii_alphanumeric b)) bs)
-
--- one more part
-pub one_part : (replacements : Replacements) (parts : List (List ℕ)) (part : List ℕ) → replaced replacements (filter is_not_empty (map lowered parts)) ++ replaced replacements (filter is_not_empty (lowered part ∷ [])) ≡ replaced replacements (filter is_not_empty (map lowered (parts ++ part ∷ [])))
-one_part replacements [] part = refl
-one_part replacements (first ∷ parts) part = elim (is_not_empty (lowered first)) as (λ b. replaced replacements (cond b (lowered first ∷ filter is_not_empty (map lowered parts)) (filter is_not_empty (map lowered parts))) ++ replaced replacements (filter is_not_empty (lowered part ∷ [])) ≡ replaced replacements (cond b (lowered first ∷ filter is_not_empty (map lowered (parts ++ part ∷ []))) (filter is_not_empty (map lowered (parts ++ part ∷ []))))) [
-  | true ↦ ap (λ l. unwrap_or (replacement replacements (lowered first)) (lowered first) ∷ l) (one_part replacements parts part)
-  | false ↦ one_part replacements parts part
-]
+    ap (λ cs. map encode_utf8_all (runs is_token_char cs)) (normal_chars-ascii bs ascii ∙ sym (nothing_left_out bs (small bs ascii)))
+    ∙ tokens_of_key (lower bs)

@@ -1,6 +1,6 @@
 -- A text that a loop puts together: what one more piece adds.
 use Rattle.std.proofs.Common.{◌≡◌, ◌∙◌, ◌+◌, ◌<◌, ℕ, true, List, [], ◌∷◌, ◌++◌, length, length-append, take, drop, map, refl, sym, ap, arith, encode_utf8_all, slice_index_or, add-zero, Some}
-use Rattle.std.specs.Prelude.{slice_get}
+use Rattle.std.specs.Prelude.{slice_get, min}
 use Rattle.std.specs.Char.{encode_utf8, to_ascii_lowercase}
 use Rattle.std.proofs.lemmas.List.{take_more, append_assoc, append-nil, length-drop, length-take, get_or-drop, map-append}
 use Rattle.std.proofs.lemmas.Option.{get_or_from_slice_get}
@@ -31,6 +31,15 @@ encode_some c cs = some _ (omega (arith, length-append (encode_utf8 c) (encode_u
 joined-more : (xs : List (List ℕ)) (y : List ℕ) → 0 < length xs → joined (xs ++ y ∷ []) ≡ joined xs ++ 32 ∷ y
 joined-more [] y h = absurd (omega (arith, h))
 joined-more (x ∷ xs) y h = joined-push x xs y
+
+-- one more token after some, with their count up to 21
+pub joined_and_counted : (old text : List ℕ) (before count : ℕ) (tokens : List (List ℕ)) (token : List ℕ) → old ≡ joined tokens → before ≡ min (length tokens) 21 → 0 < before → text ≡ (old ++ 32 ∷ []) ++ token → count ≡ min (before + 1) 21
+    → (text ≡ joined (tokens ++ token ∷ [])) × (count ≡ min (length (tokens ++ token ∷ [])) 21)
+joined_and_counted old text before count tokens token had counted some is next =
+    let more : 0 < length tokens = omega (arith, counted, some) in (
+      is ∙ append_assoc old (32 ∷ []) token ∙ ap (λ t. t ++ 32 ∷ token) had ∙ sym (joined-more tokens token more),
+      next ∙ omega (arith, counted, length-append tokens (token ∷ [])),
+    )
 
 -- the texts of a run joined, and the next
 pub joined-run : (xs : List (List ℕ)) (from n : ℕ) (y : List ℕ) (d : List ℕ) → from + 1 + n < length xs → slice_index_or xs (from + 1 + n) d ≡ y → joined (take (n + 1 + 1) (drop from xs)) ≡ (joined (take (n + 1) (drop from xs)) ++ 32 ∷ []) ++ y

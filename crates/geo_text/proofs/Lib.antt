@@ -7,5 +7,6 @@ pub mod Lists
 pub mod Replaced
 pub mod SplitParts
 mod TokenMaps
+mod TokenWalks
 mod WordFacts
 pub mod Words

@@ -1,26 +1,12 @@
--- A list cut where a test passes: what a loop over `split` has gone through at its end, and what the first cut leaves.
+-- A list cut where a test passes: what the first cut leaves.
 use Rattle.std.proofs.lemmas.List.{take_all, length-drop}
-use Rattle.std.proofs.Common.{◌≡◌, ◌∙◌, ◌+◌, ◌-◌, ◌≤◌, ℕ, Bool, true, false, cond, List, [], ◌∷◌, length, take, drop, map, nat_lt, Option, None, Some, refl, sym, ap, arith, ltb-true}
+use Rattle.std.proofs.Common.{◌≡◌, ◌∙◌, ◌+◌, ◌-◌, ◌≤◌, ℕ, Bool, true, false, cond, List, [], ◌∷◌, length, take, drop, nat_lt, None, Some, refl, sym, ap, arith, ltb-true}
 use Rattle.std.specs.Prelude.{position}
 use Rattle.std.specs.List.{position_or_len}
 use Rattle.std.proofs.lemmas.Bool.{ltb-false}
 use Rattle.std.proofs.lemmas.List.Splits.{slice_split_none, slice_split_first}
 use Rattle.std.proofs.lemmas.List.Sums.{fails_before_first}
-use Rattle.std.specs.Slice.Iter as slice
-use Rattle.std.specs.Fn.{CalledAt}
-use Rattle.std.specs.Iterator.{Yields}
 use Rattle.std.specs.List.{slice_split, onto_first}
-use denote.Param.Members.{Mut}
-use denote.Ref.{Bor}
-use Rattle.std.proofs.lemmas.Iterator.Consumers.{YieldsList-end, YieldsList-at}
-use Rattle.std.proofs.lemmas.Iterator.Splits.{YieldsList-from_slice_split}
-
--- the parts that a loop over `split` has yielded when `next` answers None
-pub all_parts : {F : Type 0} {g : Mut F (Bor ℕ × Unit {0}) Bool} (p : ℕ → Bool) (xs : List ℕ) {f : F} (s s' t u : _) (yielded : List (Bor (List ℕ))) {r : Option (Bor (List ℕ))}
-    → Yields (slice.split_steps g) s' yielded t → r ≡ None → slice.split_steps g t r u → s' ≡ s → slice.split_rest s ≡ xs → slice.split_done s ≡ false → slice.split_callee s ≡ f
-    → ((x : ℕ) (b : Bool) (q : F) → CalledAt g f x b q → (q ≡ f) × (b ≡ p x)) → map (λ x. x.now) yielded ≡ slice_split p xs
-all_parts {F} {g} p xs s s' t u yielded gone last end start rest done callee tells =
-    (YieldsList-end (YieldsList-at start (YieldsList-from_slice_split g p xs rest done callee tells)) yielded _ gone _ _ last end).0
 
 -- nothing passes: the list is the one part
 pub cut_none : (p : ℕ → Bool) (xs : List ℕ) → position p xs ≡ None → slice_split p xs ≡ xs ∷ []

@@ -4,3 +4,5 @@ pub mod Tokens
 pub mod Parts
 pub mod Numbers
 pub mod Examples
+-- for private contracts alone
+pub mod Joined

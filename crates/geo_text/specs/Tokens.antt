@@ -1,5 +1,5 @@
 -- The tokens of a text, their replacement, and the tokens as a text.
-use Rattle.std.specs.Prelude.{ℕ, Bool, List, ◌&&◌, not, nat_le, nat_lt, map, filter, length, chars, encode_utf8_all, bytes_eq, Option, unwrap_or, All}
+use Rattle.std.specs.Prelude.{ℕ, Bool, List, ◌&&◌, not, nat_le, nat_lt, map, filter, length, chars, encode_utf8_all, bytes_eq, Option, Some, None, unwrap_or, if◌then◌else◌, All}
 use Rattle.std.specs.List.{slice_split, join_with_byte, list_all}
 use Rattle.std.specs.List.Sorted.{IsStrictlySortedBy}
 use Rattle.std.specs.Ordering.{nat_cmp}
@@ -43,6 +43,10 @@ joined tokens = join_with_byte 32 tokens
 -- a phrase and a query have 1 to 20 tokens
 abbrev pub are_some_tokens : List (List ℕ) → Bool
 are_some_tokens tokens = nat_le 1 (length tokens) && nat_le (length tokens) 20
+
+-- 1 to 20 tokens as one text
+abbrev pub phrase_of : List (List ℕ) → Option (List ℕ)
+phrase_of tokens = if are_some_tokens tokens then Some (joined tokens) else None
 
 -- each byte is below 128
 abbrev pub is_ascii : List ℕ → Bool

@@ -87,8 +87,7 @@ pub fn after_word(text: &[u8]) -> &[u8]
     after(text, b' ')
 }
 
-/// The same of a text and a mark of ASCII: what stands before the first mark and what stands after it; None where there is
-/// none.
+/// What stands in a text before the first of these marks of ASCII and what stands after it; None where there is none.
 pub fn cut_text(text: &str, mark: u8) -> Option<(&str, &str)>
     requires { mark < 128 }
     ensures parts { MatchOption result (slice_split (λ b. b == mark) text.now ≡ text.now ∷ [])

@@ -8,6 +8,7 @@ ghost use Rattle.geo_text.specs.Tokens.{tokens_of};
 /// The normal form of a worked text, and the tokens of some.
 pub fn worked_texts()
     ensures normal_form { normal (encode_utf8_all (codes "Ångström-5, X")) ≡ codes "angstrom-5, x" }
+    ensures normal_accent { normal (encode_utf8_all (codes "É")) ≡ codes "e" }
     ensures accent { tokens_of (encode_utf8_all (codes "É")) ≡ codes "e" ∷ [] }
     ensures one_mark_apart { tokens_of (encode_utf8_all (0x45 ∷ 0x301 ∷ [])) ≡ codes "e" ∷ [] }
     ensures sharp_s { tokens_of (encode_utf8_all (codes "Große")) ≡ codes "grosse" ∷ [] }

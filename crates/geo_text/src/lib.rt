@@ -7,6 +7,7 @@ pub mod normalizer;
 pub mod number;
 pub mod text;
 pub mod token_map;
+mod token_sink;
 pub mod tokens;
 
 /// Want of memory: room was asked for and refused.

@@ -1,16 +1,17 @@
 //! The normal form and the tokens of texts, one after another.
 
-ghost use Rattle.std.specs.Prelude.{◌≡◌, ◌++◌, ◌∷◌, [], filter, map, not, chars, encode_utf8_all, string_bytes, IfOk, OnOk, IsAscii};
-ghost use Rattle.std.specs.Char.{is_ascii_alphanumeric, to_ascii_lowercase};
+ghost use Rattle.std.specs.Prelude.{◌≡◌, List, ℕ, ◌++◌, ◌∷◌, [], filter, map, not, chars, encode_utf8_all, string_bytes, IfOk, OnOk, IsAscii};
+ghost use Rattle.std.specs.Char.{to_ascii_lowercase};
 ghost use Rattle.unicode_normalization.specs.Forms.{nfd};
 ghost use Rattle.caseless.specs.Caseless.{default_case_fold, canonical_key};
 ghost use Rattle.geo_text.specs.Normal.{normal, is_combining, is_token_char};
-ghost use Rattle.geo_text.specs.Tokens.{tokens_of, replaced, runs};
+ghost use Rattle.geo_text.specs.Tokens.{tokens_of, replaced, phrase_of, runs};
 ghost use Rattle.geo_text.specs.Words.{is_not_empty};
 
 use crate::Memory;
 use crate::text::{Text, Tokens};
 use crate::token_map::TokenMap;
+use crate::token_sink::{JoinedTokens, TokenSink};
 use caseless::Caseless;
 use std::alloc::Global;
 use std::marker::Model;
@@ -22,9 +23,8 @@ use unicode_normalization::slice::extend_nfd;
 #[derive(Drop)]
 pub struct Normalizer {
     alloc: Global,
-    characters: Vec<char>,
-    decomposed: Vec<char>,
-    token: String,
+    room: Room,
+    phrase: JoinedTokens,
 }
 
 impl Model for Normalizer {
@@ -38,9 +38,12 @@ impl Normalizer {
     pub fn new(alloc: Global) -> Normalizer {
         Normalizer {
             alloc,
-            characters: Vec::new(alloc),
-            decomposed: Vec::new(alloc),
-            token: String::new(alloc),
+            room: Room {
+                characters: Vec::new(alloc),
+                decomposed: Vec::new(alloc),
+                token: String::new(alloc),
+            },
+            phrase: JoinedTokens::new(alloc),
         }
     }
 
@@ -51,24 +54,54 @@ impl Normalizer {
         if text.is_ascii() {
             return ascii_normal(self.alloc, text.as_bytes());
         }
-        make_key(text, &mut self.characters, &mut self.decomposed)?;
-        without_marks(self.alloc, self.decomposed.as_slice())
+        let room = &mut self.room;
+        make_key(text, &mut room.characters, &mut room.decomposed)?;
+        without_marks(self.alloc, room.decomposed.as_slice())
     }
 
     /// The tokens of a text, each replaced where the map replaces it. Memory may be refused in place of any answer.
     pub fn tokens(&mut self, text: &str, replace: &TokenMap) -> Result<Tokens, Memory>
         ensures { IfOk result (λ list. list ≡ replaced replace.now (tokens_of text.now)) }
     {
+        let mut tokens = Tokens::new(self.alloc);
+        self.room.give(text, replace, &mut tokens)?;
+        Ok(tokens)
+    }
+
+    /// Those tokens as one text, with one space between them; None exactly where there is none or more than 20. Memory may
+    /// be refused in place of any answer. Room is asked for that text alone.
+    pub fn phrase(&mut self, text: &str, replace: &TokenMap) -> Result<Option<Text>, Memory>
+        ensures { IfOk result (λ o. o ≡ phrase_of (replaced replace.now (tokens_of text.now))) }
+    {
+        self.phrase.clear();
+        self.room.give(text, replace, &mut self.phrase)?;
+        self.phrase.text(self.alloc)
+    }
+}
+
+/// The lists in which a text is put into its normal form, and the token at hand.
+#[derive(Drop)]
+struct Room {
+    characters: Vec<char>,
+    decomposed: Vec<char>,
+    token: String,
+}
+
+impl Room {
+    /// Gives the tokens of a text, each replaced where the map replaces it.
+    fn give<S: TokenSink>(
+        &mut self,
+        text: &str,
+        replace: &TokenMap,
+        sink: &mut S,
+    ) -> Result<(), Memory>
+        ensures { OnOk result ((tokens : List (List ℕ)) → S.has sink.old tokens → S.has sink.new (tokens ++ replaced replace.now (tokens_of text.now))) }
+    {
         if text.is_ascii() {
-            return ascii_tokens(self.alloc, text.as_bytes(), &mut self.token, replace);
+            return ascii_tokens(text.as_bytes(), &mut self.token, replace, sink);
         }
         make_key(text, &mut self.characters, &mut self.decomposed)?;
-        key_tokens(
-            self.alloc,
-            self.decomposed.as_slice(),
-            &mut self.token,
-            replace,
-        )
+        key_tokens(self.decomposed.as_slice(), &mut self.token, replace, sink)
     }
 }
 
@@ -119,29 +152,27 @@ fn without_marks(alloc: Global, key: &[char]) -> Result<Text, Memory>
     Ok(Text::from_string(string))
 }
 
-/// The tokens of these characters, combining diacritical marks left out, each replaced where the map replaces it; each is
-/// put together in `token`. Memory may be refused in place of any answer.
-fn key_tokens(
-    alloc: Global,
+/// Gives the tokens of these characters, combining diacritical marks left out, each replaced where the map replaces it; each
+/// is put together in `token`.
+fn key_tokens<S: TokenSink>(
     key: &[char],
     token: &mut String,
     replace: &TokenMap,
-) -> Result<Tokens, Memory>
-    ensures { IfOk result (λ list. list ≡ replaced replace.now (map encode_utf8_all (runs is_token_char (filter (λ c. not (is_combining c)) key.now)))) }
+    sink: &mut S,
+) -> Result<(), Memory>
+    ensures { OnOk result ((tokens : List (List ℕ)) → S.has sink.old tokens → S.has sink.new (tokens ++ replaced replace.now (map encode_utf8_all (runs is_token_char (filter (λ c. not (is_combining c)) key.now))))) }
 {
-    let mut tokens = Tokens::new(alloc);
     token.clear();
     for c in key {
         if !is_combining(*c) {
             if is_in_token(*c) {
                 token.push(*c)?;
             } else {
-                end_token(alloc, token, replace, &mut tokens)?;
+                end_token(token, replace, sink)?;
             }
         }
     }
-    end_token(alloc, token, replace, &mut tokens)?;
-    Ok(tokens)
+    end_token(token, replace, sink)
 }
 
 /// The normal form of ASCII bytes, which is the text in lower case. Memory may be refused in place of any answer.
@@ -154,37 +185,39 @@ fn ascii_normal(alloc: Global, text: &[u8]) -> Result<Text, Memory>
     Ok(Text::from_string(string))
 }
 
-/// The tokens of ASCII bytes, the runs of letters and digits in lower case, each replaced where the map replaces it; each
-/// is put together in `token`. Memory may be refused in place of any answer.
-fn ascii_tokens(
-    alloc: Global,
+/// Gives the tokens of ASCII bytes, the runs of letters and digits in lower case, each replaced where the map replaces it;
+/// each is put together in `token`.
+fn ascii_tokens<S: TokenSink>(
     text: &[u8],
     token: &mut String,
     replace: &TokenMap,
-) -> Result<Tokens, Memory>
+    sink: &mut S,
+) -> Result<(), Memory>
     requires { IsAscii text.now }
-    ensures { IfOk result (λ list. list ≡ replaced replace.now (tokens_of text.now)) }
+    ensures { OnOk result ((tokens : List (List ℕ)) → S.has sink.old tokens → S.has sink.new (tokens ++ replaced replace.now (tokens_of text.now))) }
 {
-    let mut tokens = Tokens::new(alloc);
-    for part in text.split(is_break) {
-        lower_case(part, token)?;
-        end_token(alloc, token, replace, &mut tokens)?;
+    token.clear();
+    for b in text {
+        if b.is_ascii_alphanumeric() {
+            token.push(char::from(b.to_ascii_lowercase()))?;
+        } else {
+            end_token(token, replace, sink)?;
+        }
     }
-    Ok(tokens)
+    end_token(token, replace, sink)
 }
 
-/// Adds the token that was put together, or what it is replaced by, if it has a byte, and empties it.
-fn end_token(
-    alloc: Global,
+/// Gives the token that was put together, or what it is replaced by, if it has a byte, and empties it.
+fn end_token<S: TokenSink>(
     token: &mut String,
     replace: &TokenMap,
-    tokens: &mut Tokens,
+    sink: &mut S,
 ) -> Result<(), Memory>
-    ensures added { OnOk result (tokens.new ≡ tokens.old ++ replaced replace.now (filter is_not_empty (string_bytes token.old ∷ []))) }
+    ensures given { OnOk result ((tokens : List (List ℕ)) → S.has sink.old tokens → S.has sink.new (tokens ++ replaced replace.now (filter is_not_empty (string_bytes token.old ∷ [])))) }
     ensures empty { OnOk result (string_bytes token.new ≡ []) }
 {
     if !token.is_empty() {
-        tokens.push(replace.text_for(alloc, token.as_str())?)?;
+        sink.add(replace.replaced(token.as_str()))?;
         token.clear();
     }
     Ok(())
@@ -199,13 +232,6 @@ fn lower_case(bytes: &[u8], string: &mut String) -> Result<(), Memory>
         string.push(char::from(b.to_ascii_lowercase()))?;
     }
     Ok(())
-}
-
-/// The byte is neither a letter nor a digit.
-fn is_break(b: &u8) -> bool
-    ensures { result ≡ not (is_ascii_alphanumeric b.now) }
-{
-    !b.is_ascii_alphanumeric()
 }
 
 /// The character is a combining diacritical mark, U+0300 to U+036F.

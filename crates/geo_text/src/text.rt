@@ -127,6 +127,15 @@ impl Tokens {
         Ok(())
     }
 
+    /// Adds a copy of a token at the end; after want of memory the list is as before.
+    pub fn push_copy(&mut self, token: &str) -> Result<(), Memory>
+        ensures ok { OnOk result (self.new ≡ self.old ++ token.now ∷ []) }
+        ensures err { OnErr result (self.new ≡ self.old) }
+    {
+        let copy = Text::of(*self.list.allocator(), token)?;
+        self.push(copy)
+    }
+
     /// The number of tokens.
     pub fn len(&self) -> usize
         ensures { result ≡ length self.now }

@@ -72,14 +72,13 @@ impl TokenMap {
         }
     }
 
-    /// What the token is replaced by, or the token itself where it stays as it is. Memory may be refused in place of any
-    /// answer.
-    pub fn text_for(&self, alloc: Global, token: &str) -> Result<Text, Memory>
-        ensures { IfOk result (λ text. text ≡ unwrap_or (replacement self.now token.now) token.now) }
+    /// What the token is replaced by, or the token itself where it stays as it is.
+    pub fn replaced<'a>(&'a self, token: &'a str) -> &'a str
+        ensures { result.now ≡ unwrap_or (replacement self.now token.now) token.now }
     {
         match self.get(token) {
-            Some(text) => Text::of(alloc, text),
-            None => Text::of(alloc, token),
+            Some(text) => text,
+            None => token,
         }
     }
 

@@ -34,7 +34,7 @@ pub fn replaced(alloc: Global, list: &Tokens, replace: &TokenMap) -> Result<Toke
 {
     let mut tokens = Tokens::new(alloc);
     for token in list.as_slice() {
-        tokens.push(replace.text_for(alloc, token.as_str())?)?;
+        tokens.push_copy(replace.replaced(token.as_str()))?;
     }
     Ok(tokens)
 }

@@ -10,6 +10,7 @@ pub returns : goal.returns
 unfolding chars encode_utf8 unicode_normalization caseless ucd_category
 returns c = record {
   normal_form = refl;
+  normal_accent = refl;
   accent = refl;
   one_mark_apart = refl;
   sharp_s = refl;

@@ -1,9 +1,9 @@
-use Rattle.std.proofs.Common.{◌≡◌, map, filter}
-use Rattle.geo_text.specs.Tokens.{replaced}
-use Rattle.geo_text.specs.Words.{is_not_empty}
-use Rattle.geo_text.proofs.AsciiTokens.{lowered}
+use Rattle.std.proofs.Common.{drop}
+use Rattle.std.specs.Prelude.{string_bytes}
+use Rattle.geo_text.proofs.AsciiTokens.{lower}
+use Rattle.geo_text.proofs.TokenWalks.{Along}
 use Rattle.geo_text.proofs.normalizer.ascii_tokens.Given as goal
 
--- the tokens so far are those of the parts so far, each replaced
-abbrev pub invariant-loop-part : goal.invariant-loop-part
-invariant-loop-part l = l.tokens ≡ replaced l.replace (filter is_not_empty (map lowered (map (λ x. x.now) l.yielded)))
+-- the tokens given so far, and those that the token at hand and the bytes that are left make, are those of all
+abbrev pub invariant-loop-b : goal.invariant-loop-b
+invariant-loop-b g l = Along l.replace (g.S.TokenSink.has l.initial.sink) (g.S.TokenSink.has l.sink) (string_bytes l.token) (lower (drop l.b-index l.text)) (lower l.text)
