@@ -1,35 +1,29 @@
 -- The phrases of a feature, collected part after part, are its distinct phrases.
-use Rattle.std.proofs.Common.{◌≡◌, ◌∙◌, ◌==◌, ◌-◌, ℕ, Bool, true, false, cond, not, List, [], ◌∷◌, ◌++◌, ◌&&◌, ◌||◌, map, filter, fold, min, refl, sym, ap, arith, append_assoc, append-nil, Result, Ok, Err}
-use Rattle.std.specs.Prelude.{bytes_eq, is_ok, flat_map}
+use Rattle.std.proofs.Common.{◌≡◌, ◌∙◌, ◌==◌, ◌-◌, ℕ, Bool, true, false, cond, not, List, [], ◌∷◌, ◌++◌, ◌&&◌, ◌||◌, map, filter, fold, min, refl, sym, ap, arith, append_assoc, append-nil, Option, None, Some}
+use Rattle.std.specs.Prelude.{bytes_eq, is_some, flat_map, option_and_then, option_map}
 use Rattle.std.specs.List.{list_any, list_all}
 use Rattle.std.specs.BTreeSet.{BTreeSet, contains}
 use Rattle.std.specs.BTreeSet as sorted
 use Rattle.std.specs.BTreeMap.{is_at}
 use Rattle.std.specs.String.{string_cmp}
 use Rattle.std.specs.Ordering.{nat_cmp, is_eq, ordering_then}
-use Rattle.std.specs.Prelude.{String, string_bytes}
+use Rattle.std.specs.Prelude.{string_bytes}
 use Rattle.std.specs.declared.cmp.Ordering.{Ordering}
 use Rattle.std.specs.declared.cmp.Ordering.TheVariants.{Less, Equal, Greater}
-use Rattle.std.specs.declared.alloc.Global.{Global}
 use Rattle.std.proofs.lemmas.Bool.{and_parts, false_from_ne_true, not-true, not-false}
 use Rattle.std.proofs.lemmas.Bool.Decides.{nat_tests}
 use Rattle.std.proofs.lemmas.List.Folds.{list_any-append}
 use Rattle.std.proofs.lemmas.List.Sums.{fold-append}
 use Rattle.std.proofs.lemmas.Map.Text.{is_eq-slice_cmp}
 use Rattle.std.proofs.lemmas.Slice.Eq.{bytes_eq-Decides}
-use Rattle.serde_json.specs.Data.{Data, Members, no_members}
-use Rattle.serde_json.specs.Data as json
-use Rattle.serde_json.specs.View.{view, members_view}
-use Rattle.serde_json.specs.declared.value.Value.{Value}
 use Rattle.geo_text.specs.Tokens.{Replacements, tokens_of, replaced, joined, are_some_tokens}
 use Rattle.geo_text.specs.Parts.{pieces, ranked}
-use Rattle.geo_layer.specs.Json.{◌>>=◌}
+use Rattle.feature_json.specs.Shape.{Shape}
 use Rattle.feature_reader.specs.Languages.{all_languages, bits_of, other_languages}
-use Rattle.feature_reader.specs.Feature.{phrases_of, same_phrase, distinct, own_texts, all_phrases}
-use Rattle.feature_reader.specs.Collected.{AreSeen, phrase_of_key, key_cmp, with_phrase, with_piece, with_own, without_language, own_text_of, after_texts, after_members}
+use Rattle.feature_reader.specs.Feature.{own_text, own_texts, phrases_of, same_phrase, distinct, all_phrases}
+use Rattle.feature_reader.specs.Collected.{AreSeen, phrase_of_key, key_cmp, with_phrase, with_piece, with_own, without_language, after_texts, after_members}
 use Rattle.feature_reader.specs.declared.phrase.Phrase.{Phrase}
 use Rattle.feature_reader.specs.declared.text_phrases.PhraseKey.{PhraseKey}
-use Rattle.feature_reader.specs.declared.feature.FeatureFault.{FeatureFault}
 
 -- ---- equal phrases
 
@@ -158,20 +152,19 @@ phrases_collected replacements cap text set ps = sym (all_pieces set cap (tokens
 -- ---- text after text
 
 module _ {X : Type 0} (f : X → List ℕ × List ℕ → X) where
-  after_step : (x : X) (first : Result (List (List ℕ × List ℕ)) FeatureFault) (more : Result (List (List ℕ × List ℕ)) FeatureFault) (after : X → X) (own : List (List ℕ × List ℕ))
-      → ((rest : List (List ℕ × List ℕ)) → more ≡ Ok rest → (y : X) → after y ≡ fold f y rest)
-      → (first >>= λ a. more >>= λ b. Ok (a ++ b)) ≡ Ok own → after (after_texts f x first) ≡ fold f x own
-  after_step x (Err e) more after own rest is = absurd (cc is)
-  after_step x (Ok a) (Err e) after own rest is = absurd (cc is)
-  after_step x (Ok a) (Ok b) after own rest is =
+  after_step : (x : X) (first more : Option (List (List ℕ × List ℕ))) (after : X → X) (own : List (List ℕ × List ℕ))
+      → ((rest : List (List ℕ × List ℕ)) → more ≡ Some rest → (y : X) → after y ≡ fold f y rest)
+      → option_and_then (λ a. option_map (λ b. a ++ b) more) first ≡ Some own → after (after_texts f x first) ≡ fold f x own
+  after_step x None more after own rest is = absurd (cc is)
+  after_step x (Some a) None after own rest is = absurd (cc is)
+  after_step x (Some a) (Some b) after own rest is =
       let same : a ++ b ≡ own = cc is in
       rest b refl (fold f x a) ∙ (sym (fold-append f x a b) ∙ ap (fold f x) same)
 
   -- member after member it is text after text
-  pub after_own_texts : (members : Members) (x : X) (own : List (List ℕ × List ℕ)) → own_texts members ≡ Ok own → after_members f x members ≡ fold f x own
-  after_own_texts no_members x own is = let same : [] ≡ own = cc is in ap (fold f x) same
-  after_own_texts (json.member name d members) x own is =
-      after_step x (own_text_of name d) (own_texts members) (λ y. after_members f y members) own (λ rest e y. after_own_texts members y rest e) is
+  pub after_own_texts : (members : List (List ℕ × Shape)) (x : X) (own : List (List ℕ × List ℕ)) → own_texts members ≡ Some own → after_members f x members ≡ fold f x own
+  after_own_texts [] x own is = let same : [] ≡ own = cc is in ap (fold f x) same
+  after_own_texts (m ∷ members) x own is = after_step x (own_text m) (own_texts members) (λ y. after_members f y members) own (λ rest e y. after_own_texts members y rest e) is
 
 -- the languages without those of the texts
 others_collected : (langs : List (List ℕ)) (own : List (List ℕ × List ℕ)) (set : ℕ) → fold (without_language langs) set own ≡ fold (λ set code. set - bits_of langs code) set (map (λ t. t.0) own)
@@ -186,7 +179,7 @@ own_collected r langs cap (t ∷ own) ps =
     ∙ sym (fold-append with_phrase ps (phrases_of r cap t.1 (bits_of langs t.0)) (flat_map (λ t. phrases_of r cap t.1 (bits_of langs t.0)) own))
 
 -- the phrases of the text and then of the members are those of the feature
-pub feature_collected : (r : Replacements) (langs : List (List ℕ)) (cap : ℕ) (text : List ℕ) (members : Members) (own : List (List ℕ × List ℕ)) (others : ℕ) (first all : List Phrase) → own_texts members ≡ Ok own
+pub feature_collected : (r : Replacements) (langs : List (List ℕ)) (cap : ℕ) (text : List ℕ) (members : List (List ℕ × Shape)) (own : List (List ℕ × List ℕ)) (others : ℕ) (first all : List Phrase) → own_texts members ≡ Some own
     → others ≡ after_members (without_language langs) all_languages members → first ≡ fold with_phrase [] (phrases_of r cap text others) → all ≡ after_members (with_own r langs cap) first members → all ≡ all_phrases r langs cap text own
 feature_collected r langs cap text members own others first all is set begun ended =
     let same : others ≡ other_languages langs (map (λ t. t.0) own) = set ∙ (after_own_texts (without_language langs) members all_languages own is ∙ others_collected langs own all_languages) in
@@ -199,14 +192,14 @@ feature_collected r langs cap text members own others first all is set begun end
     ∙ collected_all (phrases_of r cap text (other_languages langs (map (λ t. t.0) own)) ++ more)
 
 -- each member is no text in a language or a string
-pub fair_members : (ms : List (String Global × Value)) → list_all (λ m. is_ok (own_text_of (string_bytes m.0) (view m.1))) ms ≡ is_ok (own_texts (members_view ms))
-fair_members [] = refl
-fair_members (m ∷ ms) = ap (λ b. is_ok (own_text_of (string_bytes m.0) (view m.1)) && b) (fair_members ms) ∙ both (own_text_of (string_bytes m.0) (view m.1)) (own_texts (members_view ms))
+pub string_members : (members : List (List ℕ × Shape)) → list_all (λ m. is_some (own_text m)) members ≡ is_some (own_texts members)
+string_members [] = refl
+string_members (m ∷ members) = ap (λ b. is_some (own_text m) && b) (string_members members) ∙ both (own_text m) (own_texts members)
   where
-    both : (first more : Result (List (List ℕ × List ℕ)) FeatureFault) → (is_ok first && is_ok more) ≡ is_ok (first >>= λ a. more >>= λ b. Ok (a ++ b))
-    both (Err e) more = refl
-    both (Ok a) (Err e) = refl
-    both (Ok a) (Ok b) = refl
+    both : (first more : Option (List (List ℕ × List ℕ))) → (is_some first && is_some more) ≡ is_some (option_and_then (λ a. option_map (λ b. a ++ b) more) first)
+    both None more = refl
+    both (Some a) None = refl
+    both (Some a) (Some b) = refl
 
 -- ---- the keys beside the phrases
 

@@ -1,12 +1,12 @@
 mod CollectedFacts
 mod Tables
 mod Rows
-mod TileTexts
-mod Listed
 mod OwnTexts
 mod Rising
 mod PhraseFacts
 mod Levels
 mod FeatureFacts
 mod WorkedFeatures
+mod LanguageFacts
+mod WorkedLanguages
 pub mod Zooms

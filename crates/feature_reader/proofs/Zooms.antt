@@ -1,19 +1,19 @@
 -- The tiles of a feature that was read have the zoom of its layer.
-use Rattle.std.proofs.Common.{◌≡◌, ◌==◌, ℕ, Bool, true, false, List, All, Option, None, Some, Result, Ok, Err, refl, sym, subst}
-use Rattle.std.specs.Prelude.{pos, codes, option_and_then, ok_or}
+use Rattle.std.proofs.Common.{◌≡◌, ◌==◌, ℕ, Bool, true, false, List, All, Result, Ok, Err, refl, sym, subst}
+use Rattle.std.specs.Prelude.{option_and_then, ok_or}
 use Rattle.std.specs.List.{list_all}
 use Rattle.std.proofs.lemmas.Bool.{eqb-true}
 use Rattle.std.proofs.lemmas.List.Elements.{All-weaker}
 use Rattle.std.proofs.lemmas.List.Sums.{AllPass-from_list_all}
-use Rattle.serde_json.specs.Data.{Data, Members}
-use Rattle.serde_json.specs.Find.{get_member, as_str}
 use Rattle.geo_base.specs.TileView.{TileView}
 use Rattle.geo_text.specs.Numbers.{below}
-use Rattle.geo_layer.specs.Json.{◌>>=◌, present, member, natural_of, whole_of, wanted, optional}
+use Rattle.geo_layer.specs.Json.{◌>>=◌, wanted}
 use Rattle.geo_layer.specs.Layer.{LayerView}
+use Rattle.feature_json.specs.Shape.{present, natural_of, text_of}
+use Rattle.feature_json.specs.Said.{Said, said}
 use Rattle.feature_reader.specs.FeatureView.{FeatureView}
-use Rattle.feature_reader.specs.Tiles.{rising, tiles_of}
-use Rattle.feature_reader.specs.Feature.{feature_in, feature_of_data, properties_of, own_texts, relevance_of, level, all_phrases}
+use Rattle.feature_reader.specs.Tiles.{rising, some_tiles}
+use Rattle.feature_reader.specs.Feature.{feature_in, feature_of, own_texts, score_of, relevance_of, level, all_phrases}
 use Rattle.feature_reader.specs.declared.feature.FeatureFault.{FeatureFault}
 use Rattle.feature_reader.specs.declared.feature.FeatureFault.TheVariants as fault
 use Rattle.feature_reader.proofs.Rising.{rising_all}
@@ -44,21 +44,20 @@ made_of zoom r made tiles f are all e =
     let same : made x ≡ f = cc is in
     subst (AtZoom zoom) same (subst (λ (ts : List TileView). All (λ t. t.z ≡ zoom) ts) (sym (are x)) (rising_all (λ t. t.z ≡ zoom) tiles (test_all zoom tiles all)))
 
-in_zoom : (layer : LayerView) (langs : List (List ℕ)) (d : Data) (members : Members) (f : FeatureView) → feature_in layer langs d members ≡ Ok f → AtZoom layer.zoom f
-in_zoom layer langs d members f e =
-    let (id, is_id, e₁) = bind_ok (ok_or (option_and_then (below 67108864) (option_and_then natural_of (member (codes "id") d))) fault.Id) _ f e in
-    let (text, is_text, e₂) = bind_ok (ok_or (option_and_then as_str (present (get_member (codes "carmen:text") members))) fault.Text) _ f e₁ in
-    let (own, is_own, e₃) = bind_ok (own_texts members) _ f e₂ in
-    let (listed, is_listed, e₄) = bind_ok (ok_or (tiles_of (present (get_member (codes "carmen:zxy") members))) fault.Zxy) _ f e₃ in
-    let (u, at_zoom, e₅) = bind_ok (wanted (list_all (λ t. t.z == layer.zoom) listed) fault.Zoom) _ f e₄ in
-    let (score, is_score, e₆) = bind_ok (optional whole_of (pos 0) fault.Score (present (get_member (codes "carmen:score") members))) _ f e₅ in
-    made_of layer.zoom (optional relevance_of 100 fault.Relev (present (get_member (codes "carmen:relev") members)))
-    (λ cap. record { id = id; score = level layer.scoremax score; phrases = all_phrases layer.tokens langs cap text own; tiles = rising listed }) listed f (λ x. refl) (wanted_ok (list_all (λ t. t.z == layer.zoom) listed) fault.Zoom u at_zoom) e₆
+in_zoom : (layer : LayerView) (langs : List (List ℕ)) (said : Said) (f : FeatureView) → feature_in layer langs said ≡ Ok f → AtZoom layer.zoom f
+in_zoom layer langs said f e =
+    let (p, is_properties, e₁) = bind_ok (ok_or said.properties fault.Json) _ f e in
+    let (id, is_id, e₂) = bind_ok (ok_or (option_and_then (below 67108864) (option_and_then natural_of said.id)) fault.Id) _ f e₁ in
+    let (text, is_text, e₃) = bind_ok (ok_or (option_and_then text_of p.values.text) fault.Text) _ f e₂ in
+    let (own, is_own, e₄) = bind_ok (ok_or (own_texts p.values.own) fault.Text) _ f e₃ in
+    let (listed, is_listed, e₅) = bind_ok (ok_or (option_and_then some_tiles p.tiles) fault.Zxy) _ f e₄ in
+    let (u, at_zoom, e₆) = bind_ok (wanted (list_all (λ t. t.z == layer.zoom) listed) fault.Zoom) _ f e₅ in
+    let (score, is_score, e₇) = bind_ok (ok_or (score_of (present p.values.score)) fault.Score) _ f e₆ in
+    made_of layer.zoom (ok_or (relevance_of (present p.values.relev)) fault.Relev)
+    (λ cap. record { id = id; score = level layer.scoremax score; phrases = all_phrases layer.tokens langs cap text own; tiles = rising listed }) listed f (λ x. refl) (wanted_ok (list_all (λ t. t.z == layer.zoom) listed) fault.Zoom u at_zoom) e₇
 
 -- a feature that was read in a layer has the layer's zoom
-pub feature_zoom : (layer : LayerView) (langs : List (List ℕ)) (d : Data) (f : FeatureView) → feature_of_data layer langs d ≡ Ok f → All (λ t. t.z ≡ layer.zoom) f.tiles
-feature_zoom layer langs d f e = by (properties_of d) e
-  where
-    by : (o : Option Members) → (ok_or o fault.Json >>= λ members. feature_in layer langs d members) ≡ Ok f → AtZoom layer.zoom f
-    by None e = absurd (cc e)
-    by (Some found) e = in_zoom layer langs d found f e
+pub feature_zoom : (layer : LayerView) (langs : List (List ℕ)) (bytes : List ℕ) (f : FeatureView) → feature_of layer langs bytes ≡ Ok f → All (λ t. t.z ≡ layer.zoom) f.tiles
+feature_zoom layer langs bytes f e =
+    let (found, is_found, e₁) = bind_ok (ok_or (said bytes) fault.Json) (λ found. feature_in layer langs found) f e in
+    in_zoom layer langs found f e₁

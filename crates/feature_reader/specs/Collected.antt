@@ -1,39 +1,31 @@
 -- For private contracts alone: what is made of the texts in languages, member after member, and the phrases collected part after part.
 use denote.Ref.{Bor}
-use Rattle.std.specs.Prelude.{◌≡◌, ℕ, ◌-◌, List, [], ◌∷◌, ◌++◌, min, fold, if◌then◌else◌, Option, Some, None, Result, Ok, Err, string_bytes}
+use Rattle.std.specs.Prelude.{◌≡◌, ℕ, ◌-◌, List, [], ◌∷◌, ◌++◌, min, fold, if◌then◌else◌, Option, Some, None, string_bytes}
 use Rattle.std.specs.List.{list_any}
 use Rattle.std.specs.BTreeSet.{BTreeSet, contains}
 use Rattle.std.specs.String.{string_cmp}
 use Rattle.std.specs.Ordering.{nat_cmp, ordering_then}
 use Rattle.std.specs.declared.cmp.Ordering.{Ordering}
-use Rattle.serde_json.specs.Data.{Data, Members, no_members}
-use Rattle.serde_json.specs.Data as json
 use Rattle.geo_text.specs.Tokens.{Replacements, joined, are_some_tokens}
-use Rattle.geo_layer.specs.Json.{present}
+use Rattle.feature_json.specs.Shape.{Shape}
 use Rattle.feature_reader.specs.Languages.{bits_of}
-use Rattle.feature_reader.specs.Feature.{text_code, own_text, phrases_of, same_phrase}
+use Rattle.feature_reader.specs.Feature.{own_text, phrases_of, same_phrase}
 use Rattle.feature_reader.specs.declared.phrase.Phrase.{Phrase}
 use Rattle.feature_reader.specs.declared.text_phrases.PhraseKey.{PhraseKey}
-use Rattle.feature_reader.specs.declared.feature.FeatureFault.{FeatureFault}
-
--- the text in a language that a member is, or its fault
-abbrev pub own_text_of : List ℕ → Data → Result (List (List ℕ × List ℕ)) FeatureFault
-own_text_of name d = own_text (text_code name) (present (Some d))
 
 -- a code and a text, where there are some, as a list
 abbrev pub list_of_text : Option (List ℕ × Bor (List ℕ)) → List (List ℕ × List ℕ)
 list_of_text None = []
 list_of_text (Some own) = (own.0, own.1.now) ∷ []
 
--- what f makes of x by these texts; x stays at a fault
-abbrev pub after_texts : {X : Type 0} → (X → List ℕ × List ℕ → X) → X → Result (List (List ℕ × List ℕ)) FeatureFault → X
-after_texts f x (Ok own) = fold f x own
-after_texts f x (Err e) = x
+-- what f makes of x by these texts; x stays where they can't be told
+abbrev pub after_texts : {X : Type 0} → (X → List ℕ × List ℕ → X) → X → Option (List (List ℕ × List ℕ)) → X
+after_texts f x (Some own) = fold f x own
+after_texts f x None = x
 
 -- what f makes of x by the texts in languages of the members
-abbrev pub after_members : {X : Type 0} → (X → List ℕ × List ℕ → X) → X → Members → X
-after_members f x no_members = x
-after_members f x (json.member name d members) = after_members f (after_texts f x (own_text_of name d)) members
+abbrev pub after_members : {X : Type 0} → (X → List ℕ × List ℕ → X) → X → List (List ℕ × Shape) → X
+after_members f x members = fold (λ x m. after_texts f x (own_text m)) x members
 
 -- the languages without that of a text
 abbrev pub without_language : List (List ℕ) → ℕ → List ℕ × List ℕ → ℕ

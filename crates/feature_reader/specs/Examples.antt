@@ -19,6 +19,10 @@ read text = feature_of place [] text
 abbrev pub read_with_german : List ℕ → Result FeatureView FeatureFault
 read_with_german text = feature_of place (codes "de" ∷ []) text
 
+-- the same where French and English are listed
+abbrev pub read_with_two : List ℕ → Result FeatureView FeatureFault
+read_with_two text = feature_of place (codes "fr" ∷ codes "en" ∷ []) text
+
 -- a text in a set of languages
 abbrev pub phrase_in : ℕ → ℕ → List ℕ → Phrase
 phrase_in set relev text = record { text = text; set = record { bits = set }; relev = relev }

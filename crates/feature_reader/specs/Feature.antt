@@ -1,17 +1,16 @@
 -- The feature that a JSON text stands for in a layer, or its first fault.
-use Rattle.std.specs.Prelude.{ℕ, ℤ, pos, negsuc, ◌+◌, ◌-◌, ◌*◌, ◌/◌, Bool, true, false, List, [], ◌∷◌, ◌++◌, ◌&&◌, ◌||◌, ◌==◌, not, min, nat_eq, drop, codes, bytes_eq, filter, flat_map, map, if◌then◌else◌, Option, Some, None, option_and_then, Result, Ok, Err, ok_or}
+use Rattle.std.specs.Prelude.{ℕ, ℤ, pos, negsuc, ◌+◌, ◌-◌, ◌*◌, ◌/◌, Bool, List, [], ◌∷◌, ◌++◌, ◌&&◌, ◌||◌, ◌==◌, not, min, nat_eq, drop, codes, bytes_eq, filter, flat_map, map, if◌then◌else◌, Option, Some, None, option_and_then, option_map, Result, Ok, ok_or}
 use Rattle.std.specs.List.{list_all, starts_with}
-use Rattle.serde_json.specs.Data.{Data, Members, no_members}
-use Rattle.serde_json.specs.Data as json
-use Rattle.serde_json.specs.Find.{get_member, as_str, as_object}
 use Rattle.geo_base.specs.LangCode.{is_code}
 use Rattle.geo_text.specs.Numbers.{below}
 use Rattle.geo_text.specs.Tokens.{Replacements, joined}
 use Rattle.geo_text.specs.Parts.{parts}
-use Rattle.geo_layer.specs.Json.{data_of, present, member, whole_of, natural_of, ◌>>=◌, wanted, optional}
+use Rattle.geo_layer.specs.Json.{◌>>=◌, wanted}
 use Rattle.geo_layer.specs.Layer.{LayerView}
+use Rattle.feature_json.specs.Shape.{Shape, present, text_of, whole_of, natural_of}
+use Rattle.feature_json.specs.Said.{Said, said}
 use Rattle.feature_reader.specs.Languages.{bits_of, other_languages}
-use Rattle.feature_reader.specs.Tiles.{tiles_of, rising}
+use Rattle.feature_reader.specs.Tiles.{some_tiles, rising}
 use Rattle.feature_reader.specs.FeatureView.{FeatureView}
 use Rattle.feature_reader.specs.declared.phrase.Phrase.{Phrase}
 use Rattle.feature_reader.specs.declared.feature.FeatureFault.{FeatureFault}
@@ -21,16 +20,20 @@ use Rattle.feature_reader.specs.declared.feature.FeatureFault.TheVariants as fau
 abbrev pub text_code : List ℕ → Option (List ℕ)
 text_code name = if starts_with nat_eq name (codes "carmen:text_") && is_code (drop 12 name) then Some (drop 12 name) else None
 
--- a text in a language of its own: none where the member is another one or null, a fault where it isn't a string
-abbrev pub own_text : Option (List ℕ) → Option Data → Result (List (List ℕ × List ℕ)) FeatureFault
-own_text None d = Ok []
-own_text (Some code) None = Ok []
-own_text (Some code) (Some d) = elim (as_str d) [ None ↦ Err fault.Text | Some text ↦ Ok ((code, text) ∷ []) ]
+-- a text by its code, where the member is there; nothing where it isn't a string
+abbrev pub text_with : Option (List ℕ) → Option Shape → Option (List (List ℕ × List ℕ))
+text_with None s = Some []
+text_with (Some code) None = Some []
+text_with (Some code) (Some s) = option_map (λ text. (code, text) ∷ []) (text_of s)
 
--- the texts by code, in the order of the members, which is that of their bytes
-abbrev pub own_texts : Members → Result (List (List ℕ × List ℕ)) FeatureFault
-own_texts no_members = Ok []
-own_texts (json.member name d members) = own_text (text_code name) (present (Some d)) >>= λ first. own_texts members >>= λ more. Ok (first ++ more)
+-- the text by its code that a member is: none where it is another one or null, nothing where it isn't a string
+abbrev pub own_text : List ℕ × Shape → Option (List (List ℕ × List ℕ))
+own_text (name, s) = text_with (text_code name) (present (Some s))
+
+-- the texts by code, in the order of the members; nothing where one isn't a string
+abbrev pub own_texts : List (List ℕ × Shape) → Option (List (List ℕ × List ℕ))
+own_texts [] = Some []
+own_texts (m ∷ members) = option_and_then (λ first. option_map (λ more. first ++ more) (own_texts members)) (own_text m)
 
 -- the phrases of a text in a set of languages: one for each of its parts
 abbrev pub phrases_of : Replacements → ℕ → List ℕ → ℕ → List Phrase
@@ -55,40 +58,29 @@ abbrev pub level : ℕ → ℤ → ℕ
 level scoremax (pos score) = min 15 ((15 * score + (scoremax - 1)) / scoremax)
 level scoremax (negsuc n) = 0
 
--- a relevance: 40, 60, 80 or 100
-abbrev pub relevance_of : Data → Option ℕ
-relevance_of d = option_and_then (λ n. if n == 40 || (n == 60 || (n == 80 || n == 100)) then Some n else None) (natural_of d)
+-- the score: 0 where it is absent
+abbrev pub score_of : Option Shape → Option ℤ
+score_of None = Some (pos 0)
+score_of (Some s) = whole_of s
 
--- the feature of a layer that an object with these properties stands for, or its first fault: Id, Text, Zxy, Zoom, Score, Relev
-abbrev pub feature_in : LayerView → List (List ℕ) → Data → Members → Result FeatureView FeatureFault
-feature_in layer langs d members =
-    ok_or (option_and_then (below 67108864) (option_and_then natural_of (member (codes "id") d))) fault.Id >>= λ id.
-    ok_or (option_and_then as_str (present (get_member (codes "carmen:text") members))) fault.Text >>= λ text.
-    own_texts members >>= λ own.
-    ok_or (tiles_of (present (get_member (codes "carmen:zxy") members))) fault.Zxy >>= λ tiles.
+-- the relevance: 40, 60, 80 or 100; 100 where it is absent
+abbrev pub relevance_of : Option Shape → Option ℕ
+relevance_of None = Some 100
+relevance_of (Some s) = option_and_then (λ n. if n == 40 || (n == 60 || (n == 80 || n == 100)) then Some n else None) (natural_of s)
+
+-- the feature of a layer of which this is said, or its first fault: Json, Id, Text, Zxy, Zoom, Score, Relev
+abbrev pub feature_in : LayerView → List (List ℕ) → Said → Result FeatureView FeatureFault
+feature_in layer langs said =
+    ok_or said.properties fault.Json >>= λ p.
+    ok_or (option_and_then (below 67108864) (option_and_then natural_of said.id)) fault.Id >>= λ id.
+    ok_or (option_and_then text_of p.values.text) fault.Text >>= λ text.
+    ok_or (own_texts p.values.own) fault.Text >>= λ own.
+    ok_or (option_and_then some_tiles p.tiles) fault.Zxy >>= λ tiles.
     wanted (list_all (λ t. t.z == layer.zoom) tiles) fault.Zoom >>= λ _.
-    optional whole_of (pos 0) fault.Score (present (get_member (codes "carmen:score") members)) >>= λ score.
-    optional relevance_of 100 fault.Relev (present (get_member (codes "carmen:relev") members)) >>= λ cap.
+    ok_or (score_of (present p.values.score)) fault.Score >>= λ score.
+    ok_or (relevance_of (present p.values.relev)) fault.Relev >>= λ cap.
     Ok (record { id = id; score = level layer.scoremax score; phrases = all_phrases layer.tokens langs cap text own; tiles = rising tiles })
-
--- the properties of the object that stands for a feature
-abbrev pub properties_of : Data → Option Members
-properties_of d = option_and_then as_object (member (codes "properties") d)
-
--- the feature of a layer that a value stands for, or its first fault
-abbrev pub feature_of_data : LayerView → List (List ℕ) → Data → Result FeatureView FeatureFault
-feature_of_data layer langs d = ok_or (properties_of d) fault.Json >>= λ members. feature_in layer langs d members
-
--- the fault is found before any room is asked for
-abbrev pub needs_no_room : FeatureFault → Bool
-needs_no_room fault.Json = true
-needs_no_room fault.Id = true
-needs_no_room fault.Text = true
-needs_no_room fault.Zxy = false
-needs_no_room fault.Zoom = false
-needs_no_room fault.Score = false
-needs_no_room fault.Relev = false
 
 -- the feature of a layer that bytes stand for, or its first fault
 abbrev pub feature_of : LayerView → List (List ℕ) → List ℕ → Result FeatureView FeatureFault
-feature_of layer langs bytes = ok_or (data_of bytes) fault.Json >>= λ d. feature_of_data layer langs d
+feature_of layer langs bytes = ok_or (said bytes) fault.Json >>= λ said. feature_in layer langs said

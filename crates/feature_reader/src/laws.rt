@@ -1,8 +1,12 @@
-//! Worked features and levels, computed from the definitions, as the contracts of functions that do nothing.
+//! Worked features and levels, computed from the definitions, and laws of the sets of languages, as the contracts of functions
+//! that do nothing.
 
-ghost use Rattle.std.specs.Prelude.{◌≡◌, ◌-◌, ◌∷◌, [], pos, negsuc, codes, Ok, Err};
-ghost use Rattle.feature_reader.specs.Languages.{all_languages};
-ghost use Rattle.feature_reader.specs.Examples.{read, read_with_german, phrase_in, phrase_at, new_york_text, new_york, named};
+ghost use Rattle.std.specs.Prelude.{◌≡◌, ◌-◌, ◌^◌, ◌<◌, ◌≤◌, ◌∷◌, [], List, ℕ, pos, negsuc, codes, length, slice_get, bytes_eq, not, true, false, Some, Ok, Err};
+ghost use Rattle.std.specs.List.{list_any};
+ghost use Rattle.geo_base.specs.LangSet.{has_bit};
+ghost use Rattle.geo_layer.specs.Langs.{all_differ, are_langs, bit_of};
+ghost use Rattle.feature_reader.specs.Languages.{all_languages, bits_of, other_languages};
+ghost use Rattle.feature_reader.specs.Examples.{read, read_with_german, read_with_two, phrase_in, phrase_at, new_york_text, new_york, named};
 ghost use Rattle.feature_reader.specs.Feature.{level};
 ghost use Rattle.feature_reader.specs.declared.feature.FeatureFault.TheVariants as fault;
 
@@ -23,6 +27,8 @@ pub fn worked_features()
     ensures repeated_part { read (codes "{\"id\":1,\"properties\":{\"carmen:text\":\"a,a,a\",\"carmen:zxy\":[\"6/0/0\"]}}") ≡ Ok (named (phrase_at 100 (codes "a") ∷ phrase_at 80 (codes "a") ∷ [])) }
     ensures listed_language { read_with_german (codes "{\"id\":1,\"properties\":{\"carmen:text\":\"a\",\"carmen:text_de\":\"b\",\"carmen:zxy\":[\"6/0/0\"]}}") ≡ Ok (named (phrase_in (all_languages - 1) 100 (codes "a") ∷ phrase_in 1 100 (codes "b") ∷ [])) }
     ensures unlisted_language { read (codes "{\"id\":1,\"properties\":{\"carmen:text\":\"a\",\"carmen:text_de\":\"b\",\"carmen:zxy\":[\"6/0/0\"]}}") ≡ Ok (named (phrase_at 100 (codes "a") ∷ phrase_in 0 100 (codes "b") ∷ [])) }
+    ensures two_languages { read_with_two (codes "{\"id\":1,\"properties\":{\"carmen:text\":\"a\",\"carmen:text_fr\":\"b\",\"carmen:text_en\":\"c\",\"carmen:zxy\":[\"6/0/0\"]}}") ≡ Ok (named (phrase_in (all_languages - 3) 100 (codes "a") ∷ phrase_in 2 100 (codes "c") ∷ phrase_in 1 100 (codes "b") ∷ [])) }
+    ensures unlisted_beside_listed { read_with_german (codes "{\"id\":1,\"properties\":{\"carmen:text\":\"a\",\"carmen:text_de\":\"b\",\"carmen:text_fr\":\"c\",\"carmen:zxy\":[\"6/0/0\"]}}") ≡ Ok (named (phrase_in (all_languages - 1) 100 (codes "a") ∷ phrase_in 1 100 (codes "b") ∷ phrase_in 0 100 (codes "c") ∷ [])) }
     ensures broken_language { read (codes "{\"id\":1,\"properties\":{\"carmen:text\":\"a\",\"carmen:text_de\":1}}") ≡ Err fault.Text }
     ensures low_relevance { read (codes "{\"id\":1,\"properties\":{\"carmen:text\":\"a,b\",\"carmen:zxy\":[\"6/0/0\"],\"carmen:relev\":40}}") ≡ Ok (named (phrase_at 40 (codes "a") ∷ phrase_at 40 (codes "b") ∷ [])) }
 {}
@@ -36,4 +42,21 @@ pub fn worked_levels()
     ensures highest { level 1000 (pos 1000) ≡ 15 }
     ensures above_all { level 1000 (pos 18446744073709551615) ≡ 15 }
     ensures below_zero { level 1000 (negsuc 999) ≡ 0 }
+{}
+
+/// The languages of the text that stands for all but those with a text of their own: bit k is there where the k-th listed
+/// language has none of its own, and so is each bit from the number of listed languages up to 127.
+pub fn other_languages_have_bits()
+    ensures listed { (langs own : List (List ℕ)) (k : ℕ) (code : List ℕ) → are_langs langs ≡ true → all_differ own ≡ true → slice_get langs k ≡ Some code → has_bit (other_languages langs own) k ≡ not (list_any (bytes_eq code) own) }
+    ensures behind { (langs own : List (List ℕ)) (k : ℕ) → are_langs langs ≡ true → all_differ own ≡ true → length langs ≤ k → k < 128 → has_bit (other_languages langs own) k ≡ true }
+    ensures unlisted { (langs own : List (List ℕ)) → are_langs langs ≡ true → all_differ own ≡ true → has_bit (other_languages langs own) 127 ≡ true }
+{}
+
+/// The languages of a text in one language: the bit by which a query asks for it, where it is listed; and none where it
+/// isn't, while a query asks for it by bit 127.
+pub fn a_language_has_its_bit()
+    ensures listed_set { (langs : List (List ℕ)) (k : ℕ) (code : List ℕ) → are_langs langs ≡ true → slice_get langs k ≡ Some code → bits_of langs code ≡ 2 ^ k }
+    ensures listed_bit { (langs : List (List ℕ)) (k : ℕ) (code : List ℕ) → are_langs langs ≡ true → slice_get langs k ≡ Some code → bit_of langs code ≡ k }
+    ensures unlisted_set { (langs : List (List ℕ)) (code : List ℕ) → list_any (bytes_eq code) langs ≡ false → bits_of langs code ≡ 0 }
+    ensures unlisted_bit { (langs : List (List ℕ)) (code : List ℕ) → list_any (bytes_eq code) langs ≡ false → bit_of langs code ≡ 127 }
 {}

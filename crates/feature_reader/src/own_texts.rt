@@ -1,18 +1,21 @@
 //! The texts in languages among the properties of a feature.
 
-ghost use Rattle.std.specs.Prelude.{◌≡◌, is_ok, if◌then◌else◌, Some, None, Ok, Err, MatchResult};
-ghost use Rattle.serde_json.specs.View.{view, members_view};
+ghost use Rattle.std.specs.Prelude.{◌≡◌, is_some, if◌then◌else◌, Some, None, MatchResult};
 ghost use Rattle.geo_base.specs.LangCode.{is_code};
+ghost use Rattle.feature_json.specs.Shape.{shape_of};
 ghost use Rattle.feature_reader.specs.Languages.{all_languages, bits_of};
-ghost use Rattle.feature_reader.specs.Feature.{text_code, own_texts};
-ghost use Rattle.feature_reader.specs.Collected.{own_text_of, list_of_text, after_texts, after_members, without_language};
+ghost use Rattle.feature_reader.specs.Feature.{text_code, own_text, own_texts};
+ghost use Rattle.feature_reader.specs.Collected.{list_of_text, after_texts, after_members, without_language};
 
-use crate::feature::FeatureFault;
+use feature_json::own_members::OwnMembers;
+use feature_json::seen::Seen;
 use geo_base::lang_code::LangCode;
 use geo_base::lang_set::LangSet;
 use geo_layer::langs::Langs;
-use serde_json::Value;
-use serde_json::value::Map;
+
+/// A text in a language is no string.
+#[derive(Clone, Copy, Debug, PartialEq, Eq, Drop)]
+pub struct NoString;
 
 /// The code that a text is.
 fn code(text: &str) -> Option<LangCode>
@@ -31,40 +34,35 @@ fn text_code(name: &str) -> Option<LangCode>
     }
 }
 
-/// The code and the text of a member that is a text in a language: None where it is another one or null, a fault where it
+/// The code and the text of a member that is a text in a language: None where it is another one or null, an error where it
 /// isn't a string.
-pub fn own_text<'a>(
-    name: &str,
-    value: &'a Value,
-) -> Result<Option<(LangCode, &'a str)>, FeatureFault>
-    ensures { MatchResult result (λ o. own_text_of name.now (view value.now) ≡ Ok (list_of_text o)) (λ e. own_text_of name.now (view value.now) ≡ Err e) }
+pub fn own_text<'a>(name: &str, seen: &Seen<'a>) -> Result<Option<(LangCode, &'a str)>, NoString>
+    ensures { MatchResult result (λ o. own_text (name.now, shape_of seen.now) ≡ Some (list_of_text o)) (λ _. own_text (name.now, shape_of seen.now) ≡ None) }
 {
     let Some(code) = text_code(name) else {
         return Ok(None);
     };
-    if value.is_null() {
-        return Ok(None);
-    }
-    match value.as_str() {
-        Some(text) => Ok(Some((code, text))),
-        None => Err(FeatureFault::Text),
+    match *seen {
+        Seen::Null => Ok(None),
+        Seen::Text(text) => Ok(Some((code, text))),
+        _ => Err(NoString),
     }
 }
 
 /// The member isn't a text in a language without being a string.
-fn is_fair(name: &str, value: &Value) -> bool
-    ensures { result ≡ is_ok (own_text_of name.now (view value.now)) }
+fn is_string_or_other(name: &str, seen: &Seen<'_>) -> bool
+    ensures { result ≡ is_some (own_text (name.now, shape_of seen.now)) }
 {
-    own_text(name, value).is_ok()
+    own_text(name, seen).is_ok()
 }
 
 /// Each text in a language is a string.
-pub fn are_fair(members: &Map<String, Value>) -> bool
-    ensures { result ≡ is_ok (own_texts (members_view members.now.entries)) }
+pub fn are_strings(members: &OwnMembers<'_>) -> bool
+    ensures { result ≡ is_some (own_texts members.now) }
 {
     members
-        .iter()
-        .all(|(name, value)| is_fair(name.as_str(), value))
+        .entries()
+        .all(|(name, seen)| is_string_or_other(name, seen))
 }
 
 /// The set with the bit of a language alone; no bit where it isn't listed.
@@ -81,10 +79,10 @@ pub fn bits_of(langs: &Langs, code: &LangCode) -> LangSet
 }
 
 /// The languages without that of a member which is a text in a language.
-fn without(set: LangSet, langs: &Langs, name: &str, value: &Value) -> LangSet
-    ensures { result.bits ≡ after_texts (without_language langs.now) set.bits (own_text_of name.now (view value.now)) }
+fn without(set: LangSet, langs: &Langs, name: &str, seen: &Seen<'_>) -> LangSet
+    ensures { result.bits ≡ after_texts (without_language langs.now) set.bits (own_text (name.now, shape_of seen.now)) }
 {
-    match own_text(name, value) {
+    match own_text(name, seen) {
         Ok(Some((code, _))) => LangSet {
             bits: set.bits.saturating_sub(bits_of(langs, &code).bits), // no two members have one code
         },
@@ -94,12 +92,12 @@ fn without(set: LangSet, langs: &Langs, name: &str, value: &Value) -> LangSet
 }
 
 /// The languages without those of the members which are texts in languages.
-pub fn other_languages(langs: &Langs, members: &Map<String, Value>) -> LangSet
-    ensures { result.bits ≡ after_members (without_language langs.now) all_languages (members_view members.now.entries) }
+pub fn other_languages(langs: &Langs, members: &OwnMembers<'_>) -> LangSet
+    ensures { result.bits ≡ after_members (without_language langs.now) all_languages members.now }
 {
     let mut set = LangSet { bits: u128::MAX };
-    for (name, value) in members {
-        set = without(set, langs, name.as_str(), value);
+    for (name, seen) in members.entries() {
+        set = without(set, langs, name, seen);
     }
     set
 }

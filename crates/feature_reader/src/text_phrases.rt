@@ -1,22 +1,22 @@
 //! The phrases of a feature's texts.
 
-ghost use Rattle.std.specs.Prelude.{◌≡◌, [], List, ℕ, min, fold, Ok, IfOk};
-ghost use Rattle.serde_json.specs.View.{view, members_view};
+ghost use Rattle.std.specs.Prelude.{◌≡◌, [], List, ℕ, min, fold, Some, IfOk};
 ghost use Rattle.geo_text.specs.Tokens.{tokens_of, replaced};
-ghost use Rattle.feature_reader.specs.Feature.{own_texts, phrases_of, all_phrases};
-ghost use Rattle.feature_reader.specs.Collected.{own_text_of, after_texts, after_members, with_phrase, with_own, with_piece};
+ghost use Rattle.feature_json.specs.Shape.{shape_of};
+ghost use Rattle.std.specs.List.{list_any};
+ghost use Rattle.feature_reader.specs.Feature.{own_text, own_texts, phrases_of, same_phrase, all_phrases};
+ghost use Rattle.feature_reader.specs.Collected.{AreSeen, phrase_of_key, after_texts, after_members, with_phrase, with_own, with_piece};
 
 use crate::own_texts::{bits_of, other_languages, own_text};
 use crate::phrase::{Phrase, Phrases};
+use feature_json::own_members::OwnMembers;
+use feature_json::seen::Seen;
 use geo_base::lang_set::LangSet;
 use geo_base::refusal::Memory;
 use geo_layer::langs::Langs;
 use geo_text::cut::cut_text;
 use geo_text::normalizer::Normalizer;
 use geo_text::token_map::TokenMap;
-use geo_text::tokens::joined;
-use serde_json::Value;
-use serde_json::value::Map;
 use std::alloc::Global;
 use std::collections::BTreeSet;
 use std::marker::Model;
@@ -29,15 +29,61 @@ struct PhraseKey {
     relev: u8,
 }
 
-/// The phrases of a feature so far, seen as their list. Beside them stands the set in which a repeat is looked up.
+/// The key of a phrase.
+fn key_of(phrase: &Phrase) -> Result<PhraseKey, Memory>
+    ensures { IfOk result (λ key. phrase_of_key key ≡ phrase.now) }
+{
+    Ok(PhraseKey {
+        text: phrase.text.copy()?.into_string(),
+        bits: phrase.set.bits,
+        relev: phrase.relev,
+    })
+}
+
+/// The keys of the phrases.
+fn keys_of(alloc: Global, phrases: &[Phrase]) -> Result<BTreeSet<PhraseKey>, Memory>
+    ensures { IfOk result (λ seen. AreSeen seen phrases.now) }
+{
+    let mut seen = BTreeSet::new(alloc);
+    for phrase in phrases {
+        let _new = seen.insert(key_of(phrase)?)?;
+    }
+    Ok(seen)
+}
+
+/// The same text in the same languages with the same relevance.
+fn is_same(phrase: &Phrase, other: &Phrase) -> bool
+    ensures { result ≡ same_phrase phrase.now other.now }
+{
+    if phrase.set.bits != other.set.bits {
+        return false;
+    }
+    if phrase.relev != other.relev {
+        return false;
+    }
+    phrase.text.as_str() == other.text.as_str()
+}
+
+/// The phrase stands among these.
+fn is_among(phrases: &[Phrase], phrase: &Phrase) -> bool
+    ensures { result ≡ list_any (same_phrase phrase.now) phrases.now }
+{
+    phrases.iter().any(|other| is_same(phrase, other))
+}
+
+/// The most phrases that a new one is compared with one by one.
+const FEW: usize = 32;
+
+/// The phrases of a feature so far, seen as their list. Where there are many, the set in which a repeat is looked up stands
+/// beside them.
 #[derive(Drop)]
 struct Collected {
     phrases: Phrases,
-    seen: BTreeSet<PhraseKey>,
+    seen: Option<BTreeSet<PhraseKey>>,
 }
 
 impl Model for Collected {
-    ghost use Rattle.std.specs.Prelude.{List};
+    ghost use Rattle.std.specs.Prelude.{List, IfSome};
     ghost use Rattle.feature_reader.specs.declared.phrase.Phrase.{Phrase};
     ghost use Rattle.feature_reader.specs.Collected.{AreSeen};
 
@@ -45,7 +91,7 @@ impl Model for Collected {
 
     ghost view = { λ c. c.phrases };
 
-    ghost invariant = { λ c. AreSeen c.seen c.phrases };
+    ghost invariant = { λ c. IfSome c.seen (λ seen. AreSeen seen c.phrases) };
 }
 
 /// The lower of a relevance and a cap.
@@ -55,6 +101,54 @@ fn at_most(cap: u8, relev: u8) -> u8
     if cap < relev { cap } else { relev }
 }
 
+/// The phrases with one more, unless it stands among them, which is looked up.
+fn with_looked_up(
+    phrases: Phrases,
+    seen: BTreeSet<PhraseKey>,
+    phrase: Phrase,
+) -> Result<Collected, Memory>
+    requires { AreSeen seen phrases }
+    ensures { IfOk result (λ all. all ≡ with_phrase phrases phrase) }
+{
+    let (mut phrases, mut seen) = (phrases, seen);
+    if seen.insert(key_of(&phrase)?)? {
+        phrases.push(phrase)?;
+        return Ok(Collected {
+            phrases,
+            seen: Some(seen),
+        });
+    }
+    Ok(Collected {
+        phrases,
+        seen: Some(seen),
+    })
+}
+
+/// The phrases with one more, unless it stands among them, with which it is compared one by one.
+fn with_compared(alloc: Global, phrases: Phrases, phrase: Phrase) -> Result<Collected, Memory>
+    ensures { IfOk result (λ all. all ≡ with_phrase phrases phrase) }
+{
+    let mut phrases = phrases;
+    if is_among(phrases.as_slice(), &phrase) {
+        return Ok(Collected {
+            phrases,
+            seen: None,
+        });
+    }
+    phrases.push(phrase)?;
+    if phrases.len() < FEW {
+        return Ok(Collected {
+            phrases,
+            seen: None,
+        });
+    }
+    let seen = keys_of(alloc, phrases.as_slice())?;
+    Ok(Collected {
+        phrases,
+        seen: Some(seen),
+    })
+}
+
 impl Collected {
     /// No phrases.
     fn new(alloc: Global) -> Collected
@@ -62,28 +156,19 @@ impl Collected {
     {
         Collected {
             phrases: Phrases::new(alloc),
-            seen: BTreeSet::new(alloc),
+            seen: None,
         }
     }
 
     /// The phrases with one more, unless it stands among them.
-    fn with_phrase(self, phrase: Phrase) -> Result<Collected, Memory>
+    fn with_phrase(self, alloc: Global, phrase: Phrase) -> Result<Collected, Memory>
         ensures { IfOk result (λ phrases. phrases ≡ with_phrase self phrase) }
     {
-        let Collected {
-            mut phrases,
-            mut seen,
-        } = self;
-        let key = PhraseKey {
-            text: phrase.text.copy()?.into_string(),
-            bits: phrase.set.bits,
-            relev: phrase.relev,
-        };
-        if seen.insert(key)? {
-            phrases.push(phrase)?;
-            return Ok(Collected { phrases, seen });
+        let Collected { phrases, seen } = self;
+        match seen {
+            Some(seen) => with_looked_up(phrases, seen, phrase),
+            None => with_compared(alloc, phrases, phrase),
         }
-        Ok(Collected { phrases, seen })
     }
 
     /// The phrases with that of one more piece of a text, where it has 1 to 20 tokens, and the relevance of the next part.
@@ -99,16 +184,10 @@ impl Collected {
     ) -> Result<(Collected, u8), Memory>
         ensures { IfOk result (λ r. r ≡ with_piece set.bits cap (self, relev) (replaced replace.now (tokens_of piece.now))) }
     {
-        let tokens = normalizer.tokens(piece, replace)?;
-        let count = tokens.len();
-        if count < 1 {
+        let Some(text) = normalizer.phrase(piece, replace)? else {
             return Ok((self, relev));
-        }
-        if count > 20 {
-            return Ok((self, relev));
-        }
-        let text = joined(alloc, &tokens, 0, count)?;
-        let collected = self.with_phrase(Phrase { text, set, relev })?;
+        };
+        let collected = self.with_phrase(alloc, Phrase { text, set, relev })?;
         Ok((collected, at_most(cap, 80)))
     }
 
@@ -145,14 +224,14 @@ impl Collected {
         alloc: Global,
         normalizer: &mut Normalizer,
         name: &str,
-        value: &Value,
+        seen: &Seen<'_>,
         langs: &Langs,
         replace: &TokenMap,
         cap: u8,
     ) -> Result<Collected, Memory>
-        ensures { IfOk result (λ phrases. phrases ≡ after_texts (with_own replace.now langs.now cap) self (own_text_of name.now (view value.now))) }
+        ensures { IfOk result (λ phrases. phrases ≡ after_texts (with_own replace.now langs.now cap) self (own_text (name.now, shape_of seen.now))) }
     {
-        match own_text(name, value) {
+        match own_text(name, seen) {
             Ok(Some((code, text))) => {
                 let set = bits_of(langs, &code);
                 self.with_text(alloc, normalizer, text, replace, set, cap)
@@ -170,42 +249,29 @@ impl Collected {
     }
 }
 
-/// The phrases of a feature whose properties have these members, and the text without a language among them: one for each
+/// The phrases of a feature with this text without a language and these texts in languages: one for each
 /// piece between commas, of that text and then of the texts in languages, that has 1 to 20 tokens, each once, at its first
 /// place. The first such piece of a text has relevance 100 and the later ones 80, each at most the cap.
 ///
-/// Whether a phrase stands already is looked up in a tree, so the time is in proportion to the length of the texts and the
-/// logarithm of the number of phrases. Memory may be refused in place of any answer.
+/// Whether a phrase stands already is looked up in a tree where there are many, so the time is in proportion to the length
+/// of the texts and the logarithm of the number of phrases. Memory may be refused in place of any answer.
 pub fn all_phrases(
     alloc: Global,
+    normalizer: &mut Normalizer,
     langs: &Langs,
     text: &str,
-    members: &Map<String, Value>,
+    members: &OwnMembers<'_>,
     replace: &TokenMap,
     cap: u8,
 ) -> Result<Phrases, Memory>
-    ensures { IfOk result (λ phrases. (own : List (List ℕ × List ℕ)) → own_texts (members_view members.now.entries) ≡ Ok own → phrases ≡ all_phrases replace.now langs.now cap text.now own) }
+    ensures { IfOk result (λ phrases. (own : List (List ℕ × List ℕ)) → own_texts members.now ≡ Some own → phrases ≡ all_phrases replace.now langs.now cap text.now own) }
 {
-    let mut normalizer = Normalizer::new(alloc);
     let others = other_languages(langs, members);
     let mut collected = Collected::new(alloc).with_text(
-        alloc,
-        &mut normalizer,
-        text,
-        replace,
-        others,
-        cap,
+        alloc, normalizer, text, replace, others, cap,
     )?;
-    for (name, value) in members {
-        collected = collected.with_member(
-            alloc,
-            &mut normalizer,
-            name.as_str(),
-            value,
-            langs,
-            replace,
-            cap,
-        )?;
+    for (name, seen) in members.entries() {
+        collected = collected.with_member(alloc, normalizer, name, seen, langs, replace, cap)?;
     }
     Ok(collected.into_phrases())
 }

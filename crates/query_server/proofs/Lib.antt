@@ -1,3 +1,4 @@
+mod FirstFeed
 mod Kept
 mod Moves
 mod OneText

@@ -1,5 +1,5 @@
 -- From where a call stands, or how it has ended, to what its status says.
-use Rattle.std.proofs.Common.{◌≡◌, ◌≢◌, ◌⊎◌, ◌<◌, ◌≤◌, ◌-◌, ◌+◌, ℕ, Bool, true, false, List, [], ◌∷◌, ◌++◌, length, take, Option, Some, None, nat_lt, refl, sym, ap, subst, ◌∙◌, inl, inr, arith, append-nil, lt-ltb}
+use Rattle.std.proofs.Common.{◌≡◌, ◌≢◌, ◌⊎◌, ◌<◌, ◌≤◌, ◌-◌, ◌+◌, ℕ, Bool, true, false, List, [], ◌++◌, length, take, Option, Some, None, nat_lt, refl, sym, ap, subst, ◌∙◌, inl, inr, arith, append-nil, lt-ltb}
 use Rattle.std.proofs.lemmas.List.{take_all, take-append-le, length-append, length-take-le}
 use Rattle.std.proofs.lemmas.Bool.{le-ltb}
 use Rattle.std.proofs.Math.Seq.{take-append_seam, take-append-add}
@@ -12,8 +12,8 @@ use Rattle.session_text.specs.declared.status.Status.{Status}
 use Rattle.session_text.specs.declared.status.Status.TheVariants.{Done, Usage, BadLine, Unended, TooMuch, ReadFault, WriteFault, Memory}
 use Rattle.session_text.proofs.Advance.{not_yet}
 use Rattle.query_server.specs.Plain.{IsPlainText}
-use Rattle.query_server.specs.Promise.{block_limit, StatusMeans, IsPrompt, TookAndWrote, EndsAs, IsStatusOf, IsDecided, IsTextOf}
-use Rattle.query_server.specs.Running.{IsAt, IsUnderWay, IsStopped, IsWritten, reading_here}
+use Rattle.query_server.specs.Promise.{block_limit, StatusMeans, IsPrompt, EndsAs, IsStatusOf, IsDecided, IsTextOf}
+use Rattle.query_server.specs.Running.{IsAt, IsUnderWay, IsStopped, reading_here}
 use Rattle.query_server.specs.declared.running.Running.{Running}
 
 -- ---- how a call ends

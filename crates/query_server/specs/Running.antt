@@ -1,5 +1,5 @@
 -- For private contracts alone: where a call stands between two bytes of its source.
-use Rattle.std.specs.Prelude.{◌≡◌, ◌≢◌, ◌≤◌, ◌+◌, ℕ, Bool, List, [], ◌∷◌, ◌++◌, length, All, Option, Some, None, Ok}
+use Rattle.std.specs.Prelude.{◌≡◌, ◌≢◌, ◌≤◌, ◌+◌, ℕ, Bool, List, ◌++◌, length, All, Option, Some, None, Ok}
 use Rattle.geo_layer.specs.declared.head.Head.{Head}
 use Rattle.plain_answer.specs.Answering.{IsOfHead}
 use Rattle.session_text.specs.Lines.{longest}

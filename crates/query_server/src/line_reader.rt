@@ -11,6 +11,7 @@ ghost use Rattle.session_text.specs.declared.why.Why.{Why};
 ghost use Rattle.session_text.specs.declared.why.Why.TheVariants as faults;
 
 use geo_base::refusal::Refused;
+use memchr::memchr;
 use session_text::session::{Kind, Session, Step};
 use session_text::why::Why;
 use std::alloc::Global;
@@ -33,7 +34,7 @@ pub struct LineReader {
 fn place_of(bytes: &[u8]) -> Option<usize>
     ensures { result ≡ position (λ b. b == 10) bytes.now }
 {
-    bytes.iter().position(|b| *b == b'\n')
+    memchr(b'\n', bytes)
 }
 
 /// What stands before the first line feed, and what stands behind it; None where there is none.

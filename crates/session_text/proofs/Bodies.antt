@@ -5,13 +5,12 @@ use Rattle.std.specs.List.{list_all, list_any}
 use Rattle.std.specs.Str.{is_utf8}
 use Rattle.geo_text.specs.Numbers.{number_of}
 use Rattle.geo_text.specs.Words.{words_of, first_word, after_word}
-use Rattle.geo_layer.specs.Json.{data_of, wanted}
+use Rattle.geo_layer.specs.Json.{wanted}
 use Rattle.geo_layer.specs.Langs.{langs_of}
 use Rattle.geo_layer.specs.LayerText.{layer_of}
 use Rattle.geo_layer.specs.declared.head.Head.{Head}
-use Rattle.feature_reader.specs.Feature.{feature_of_data, feature_of}
+use Rattle.feature_reader.specs.Feature.{feature_of}
 use Rattle.feature_reader.specs.declared.feature.FeatureFault.{FeatureFault}
-use Rattle.feature_reader.specs.declared.feature.FeatureFault.TheVariants as fault
 use Rattle.feature_reader.proofs.Zooms.{AtZoom, bind_ok, wanted_ok, feature_zoom}
 use Rattle.session_text.specs.Lines.{longest, line_text, is_skipped, next_field}
 use Rattle.session_text.specs.Session.{SessionView, one_number, two_numbers, of_layer, of_feature, title_line, langs_line, layer_line, put_line, drop_line, load_line, limit_line, is_asking, ask_line, bare_line, word_of, line_of_word, body_line, head_line, already, staged_line, line_at, after_item, step_of, IsLineOf}
@@ -55,9 +54,8 @@ put_fits head text item e =
     let (n, is_n, e₁) = bind_ok (ok_or (number_of (first_word (next_field text))) why.Form) _ item e in
     let (layer, is_layer, e₂) = bind_ok (ok_or (slice_get head.layers n) why.Number) _ item e₁ in
     let (f, is_f, e₃) = bind_ok (of_feature (feature_of layer head.langs (next_field (next_field text)))) _ item e₂ in
-    let (d, is_d, e₄) = bind_ok (ok_or (data_of (next_field (next_field text))) fault.Json) (λ d. feature_of_data layer head.langs d) f (feature_ok (feature_of layer head.langs (next_field (next_field text))) f is_f) in
     let there : slice_get head.layers n ≡ Some layer = there_ok (slice_get head.layers n) layer why.Number is_layer in
-    let at_zoom : AtZoom layer.zoom f = feature_zoom layer head.langs d f e₄ in
+    let at_zoom : AtZoom layer.zoom f = feature_zoom layer head.langs (next_field (next_field text)) f (feature_ok (feature_of layer head.langs (next_field (next_field text))) f is_f) in
     let same : Body (Put n f) ≡ item = cc e₃ in
     subst (OfBody head) same (subst (λ o. IsSome o × IfSome o (λ l. AtZoom l.zoom f)) (sym there) (refl, at_zoom))
 

@@ -1,14 +1,13 @@
 -- A line that puts a feature, once its layer's number is read.
-use Rattle.std.proofs.Common.{◌≡◌, ◌∙◌, ◌<◌, ◌≤◌, ℕ, List, length, None, Some, Result, Ok, Err, refl, ap, inl, inr, arith}
+use Rattle.std.proofs.Common.{◌≡◌, ◌∙◌, ◌<◌, ◌≤◌, ℕ, List, length, Some, Result, Ok, Err, refl, ap, inl, inr, arith}
 use Rattle.std.specs.Prelude.{ok_or, slice_get}
 use Rattle.std.proofs.lemmas.Option.{slice_get_past, slice_get_cases}
 use Rattle.geo_text.specs.Numbers.{number_of}
 use Rattle.geo_text.specs.Words.{first_word}
-use Rattle.geo_layer.specs.Json.{data_of, ◌>>=◌}
+use Rattle.geo_layer.specs.Json.{◌>>=◌}
 use Rattle.geo_layer.specs.Layer.{LayerView}
 use Rattle.geo_layer.specs.declared.head.Head.{Head}
-use Rattle.feature_reader.specs.Feature.{feature_of_data, feature_of}
-use Rattle.feature_reader.specs.declared.feature.FeatureFault.TheVariants as fault
+use Rattle.feature_reader.specs.Feature.{feature_of}
 use Rattle.session_text.specs.Lines.{next_field}
 use Rattle.session_text.specs.Session.{of_feature, put_line}
 use Rattle.session_text.specs.declared.body.BodyLine.TheVariants.{Put}
@@ -46,9 +45,3 @@ module _ (head : Head) (text : List ℕ) (n : ℕ) (is : number_of (first_word (
     )
     | inr past ↦ absurd (omega (arith, within, past.0))
   ]
-
-  -- the layer is there, and no JSON
-  pub put_no_json : data_of (next_field (next_field text)) ≡ None → n < length head.layers → put_line head text ≡ Err (why.Feature fault.Json)
-  put_no_json none within =
-      let (layer, put) = put_there within in
-      put ∙ stops (of_feature (feature_of layer head.langs (next_field (next_field text)))) _ (why.Feature fault.Json) (ap (λ o. of_feature (ok_or o fault.Json >>= λ d. feature_of_data layer head.langs d)) none)

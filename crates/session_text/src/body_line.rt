@@ -10,11 +10,9 @@ use crate::body::BodyLine;
 use crate::fields::{is_bare, next_field, one_number, two_numbers};
 use crate::item::Item;
 use crate::why::Why;
-use feature_reader::feature::FeatureFault;
-use feature_reader::read_feature::feature_of_value;
+use feature_reader::read_feature::FeatureReader;
 use geo_base::refusal::Refused;
 use geo_layer::head::Head;
-use geo_layer::json::read_json;
 use geo_text::cut::{after_word_of, first_word, skip_spaces_of};
 use geo_text::number::number;
 use geo_text::text::Text;
@@ -24,7 +22,7 @@ use std::alloc::Global;
 const MOST_ASKS: u64 = 4096;
 
 /// `put L JSON`.
-pub fn read_put(alloc: Global, head: &Head, text: &[u8]) -> Result<Item, Refused<Why>>
+pub fn read_put(reader: &mut FeatureReader, head: &Head, text: &[u8]) -> Result<Item, Refused<Why>>
     ensures ok { IfOk result (λ item. put_line head.now text.now ≡ Ok item) }
     ensures fault { (why : Why) → result ≡ Err (refused.Fault why) → put_line head.now text.now ≡ Err why }
     ensures memory { result ≡ Err refused.Memory → (why : Why) → put_line head.now text.now ≡ Err why → needs_no_room why ≡ false }
@@ -36,10 +34,8 @@ pub fn read_put(alloc: Global, head: &Head, text: &[u8]) -> Result<Item, Refused
     if place >= head.layers.len() as u64 {
         return Err(Refused::Fault(Why::Number));
     }
-    let Some(value) = read_json(alloc, next_field(fields))? else {
-        return Err(Refused::Fault(Why::Feature(FeatureFault::Json)));
-    };
-    match feature_of_value(alloc, head.layers.at(place as usize), &head.langs, &value) {
+    let layer = head.layers.at(place as usize);
+    match reader.read(layer, &head.langs, next_field(fields)) {
         Ok(feature) => Ok(Item::Body(BodyLine::Put {
             layer: place as u8,
             feature,

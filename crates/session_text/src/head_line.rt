@@ -33,7 +33,6 @@ pub fn read_title(text: &[u8]) -> Result<Item, Refused<Why>>
 pub fn read_langs_line(alloc: Global, text: &str) -> Result<Item, Refused<Why>>
     ensures ok { IfOk result (λ item. langs_line text.now ≡ Ok item) }
     ensures fault { (why : Why) → result ≡ Err (refused.Fault why) → langs_line text.now ≡ Err why }
-    ensures memory { result ≡ Err refused.Memory → (why : Why) → langs_line text.now ≡ Err why → needs_no_room why ≡ false }
 {
     match read_langs(alloc, after_word_of(text)) {
         Ok(langs) => Ok(Item::Langs(langs)),

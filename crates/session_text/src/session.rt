@@ -15,6 +15,7 @@ use crate::fields::{is_skipped, line_text, two_numbers, utf8};
 use crate::head_line::{read_langs_line, read_layer_line, read_title};
 use crate::item::{Item, Word, word_of};
 use crate::why::Why;
+use feature_reader::read_feature::FeatureReader;
 use geo_base::refusal::{Memory, Refused};
 use geo_layer::head::Head;
 use geo_layer::langs::Langs;
@@ -73,6 +74,7 @@ pub struct Session {
     feeds: u32,
     stage: Stage,
     kind: Kind,
+    reader: FeatureReader,
     alloc: Global,
 }
 
@@ -103,6 +105,7 @@ impl Session {
             feeds,
             stage: Stage::BeforeHead,
             kind,
+            reader: FeatureReader::new(alloc),
             alloc,
         }
     }
@@ -146,12 +149,13 @@ impl Session {
     }
 
     /// What a line says where the session stands, or its first fault.
-    fn read(&self, bytes: &[u8]) -> Result<Item, Refused<Why>>
-        ensures ok { IfOk result (λ item. line_at self.now bytes.now ≡ Ok item) }
-        ensures fits { IfOk result (λ item. Fits self.now item) }
-        ensures fault { (why : Why) → result ≡ Err (refused.Fault why) → line_at self.now bytes.now ≡ Err why }
-        ensures memory { result ≡ Err refused.Memory → (why : Why) → line_at self.now bytes.now ≡ Err why → needs_no_room why ≡ false }
-        ensures again { (why : Why) → self.now.stage ≡ at.Spent why → result ≡ Err (refused.Fault why) }
+    fn read(&mut self, bytes: &[u8]) -> Result<Item, Refused<Why>>
+        ensures ok { IfOk result (λ item. line_at self.old bytes.now ≡ Ok item) }
+        ensures fits { IfOk result (λ item. Fits self.old item) }
+        ensures fault { (why : Why) → result ≡ Err (refused.Fault why) → line_at self.old bytes.now ≡ Err why }
+        ensures memory { result ≡ Err refused.Memory → (why : Why) → line_at self.old bytes.now ≡ Err why → needs_no_room why ≡ false }
+        ensures again { (why : Why) → self.old.stage ≡ at.Spent why → result ≡ Err (refused.Fault why) }
+        ensures kept { self.new ≡ self.old }
     {
         if let Stage::Spent(why) = self.stage {
             return Err(Refused::Fault(why));
@@ -176,11 +180,12 @@ impl Session {
     }
 
     /// What a line of the head says; languages are listed directly after the title alone.
-    fn read_head(&self, first: bool, text: &str) -> Result<Item, Refused<Why>>
-        ensures ok { IfOk result (λ item. head_line self.now first text.now ≡ Ok item) }
-        ensures fits { IfOk result (λ item. Fits self.now item) }
-        ensures fault { (why : Why) → result ≡ Err (refused.Fault why) → head_line self.now first text.now ≡ Err why }
-        ensures memory { result ≡ Err refused.Memory → (why : Why) → head_line self.now first text.now ≡ Err why → needs_no_room why ≡ false }
+    fn read_head(&mut self, first: bool, text: &str) -> Result<Item, Refused<Why>>
+        ensures ok { IfOk result (λ item. head_line self.old first text.now ≡ Ok item) }
+        ensures fits { IfOk result (λ item. Fits self.old item) }
+        ensures fault { (why : Why) → result ≡ Err (refused.Fault why) → head_line self.old first text.now ≡ Err why }
+        ensures memory { result ≡ Err refused.Memory → (why : Why) → head_line self.old first text.now ≡ Err why → needs_no_room why ≡ false }
+        ensures kept { self.new ≡ self.old }
     {
         let bytes = text.as_bytes();
         let word = first_word(bytes);
@@ -197,15 +202,16 @@ impl Session {
     }
 
     /// What a line of the body says.
-    fn read_body(&self, text: &str) -> Result<Item, Refused<Why>>
-        ensures ok { IfOk result (λ item. body_line self.now text.now ≡ Ok item) }
-        ensures fits { IfOk result (λ item. Fits self.now item) }
-        ensures fault { (why : Why) → result ≡ Err (refused.Fault why) → body_line self.now text.now ≡ Err why }
-        ensures memory { result ≡ Err refused.Memory → (why : Why) → body_line self.now text.now ≡ Err why → needs_no_room why ≡ false }
+    fn read_body(&mut self, text: &str) -> Result<Item, Refused<Why>>
+        ensures ok { IfOk result (λ item. body_line self.old text.now ≡ Ok item) }
+        ensures fits { IfOk result (λ item. Fits self.old item) }
+        ensures fault { (why : Why) → result ≡ Err (refused.Fault why) → body_line self.old text.now ≡ Err why }
+        ensures memory { result ≡ Err refused.Memory → (why : Why) → body_line self.old text.now ≡ Err why → needs_no_room why ≡ false }
+        ensures kept { self.new ≡ self.old }
     {
         let bytes = text.as_bytes();
         match word_of(first_word(bytes)) {
-            Some(Word::Put) => read_put(self.alloc, &self.head, bytes),
+            Some(Word::Put) => read_put(&mut self.reader, &self.head, bytes),
             Some(Word::Drop) => told(read_drop(&self.head, bytes)),
             Some(Word::Load) => told(self.read_load(bytes)),
             Some(Word::Limit) => told(read_limit(bytes)),

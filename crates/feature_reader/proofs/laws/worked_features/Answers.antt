@@ -1,4 +1,5 @@
 use Rattle.feature_reader.proofs.WorkedFeatures.{no_id, large_id, no_tiles, other_zoom, no_tile, unfinished, good, below_zero, broken_score, other_relevance, two_parts, empty_part, repeated_part, listed_language, unlisted_language, broken_language, low_relevance}
+use Rattle.feature_reader.proofs.WorkedLanguages.{two_languages, unlisted_beside_listed}
 use Rattle.feature_reader.proofs.laws.worked_features.Goals as goal
 
 pub returns : goal.returns
@@ -19,6 +20,8 @@ returns c =
       repeated_part = repeated_part;
       listed_language = listed_language;
       unlisted_language = unlisted_language;
+      two_languages = two_languages;
+      unlisted_beside_listed = unlisted_beside_listed;
       broken_language = broken_language;
       low_relevance = low_relevance;
     }

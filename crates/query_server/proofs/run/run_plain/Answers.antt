@@ -1,9 +1,6 @@
-use Rattle.std.proofs.Common.{append-nil, ◌≡◌, ◌∙◌, ◌<◌, ◌≤◌, ◌+◌, ◌++◌, ◌-◌, ℕ, List, [], length, take, drop, Some, refl, sym, ap, subst, arith, rules}
-use Rattle.std.proofs.lemmas.Grind.{common_steps}
-use Rattle.std.proofs.lemmas.List.{length-append}
-use Rattle.std.specs.Io.KnownBytes.{Consumes, Appends}
-use Rattle.std.proofs.KnownBytes.{Consumes-trans, Consumes-kept, Appends-nil, Appends-trans, Consumes-nil}
-use Rattle.session_text.specs.declared.status.Status.TheVariants as status
+use Rattle.std.proofs.Common.{◌≡◌, ◌∙◌, ◌<◌, ◌≤◌, ◌+◌, ◌++◌, ◌-◌, [], length, take, drop, Some, refl, ap, subst, arith, rules}
+use Rattle.std.specs.Io.KnownBytes.{Consumes}
+use Rattle.std.proofs.KnownBytes.{Consumes-kept, Appends-nil, Appends-trans, Consumes-nil}
 use Rattle.query_server.specs.Promise.{byte_limit}
 use Rattle.query_server.proofs.Outcome.{prompt, prompt_here, stopped, at_its_end, failed, full, decided_within, decided_at_end, decided_full, not_usage, not_read_fault, took_none, took_some, count_block, count_some, rose_earlier}
 use Rattle.query_server.proofs.run.run_plain.Goals as goal

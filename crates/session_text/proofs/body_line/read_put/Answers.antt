@@ -1,13 +1,11 @@
-use Rattle.std.proofs.Common.{◌≡◌, ◌<◌, ◌≤◌, length, None, Some, Err, subst, rules, arith}
+use Rattle.std.proofs.Common.{◌≡◌, ◌<◌, ◌≤◌, length, Some, Err, subst, rules, arith}
 use Rattle.geo_text.specs.Numbers.{number_of}
 use Rattle.geo_text.specs.Words.{first_word}
-use Rattle.geo_layer.specs.Json.{data_of}
-use Rattle.feature_reader.specs.declared.feature.FeatureFault.TheVariants as feature
 use Rattle.session_text.specs.Lines.{next_field}
 use Rattle.session_text.specs.Session.{put_line}
 use Rattle.session_text.specs.declared.why.Why.{Why}
 use Rattle.session_text.specs.declared.why.Why.TheVariants as why
-use Rattle.session_text.proofs.PutFacts.{put_no_layer, put_no_json}
+use Rattle.session_text.proofs.PutFacts.{put_no_layer}
 use Rattle.session_text.proofs.Rooms.{put_late}
 use Rattle.session_text.proofs.body_line.read_put.Goals as goal
 
@@ -18,22 +16,8 @@ returns-then-place-len-clause-fault c fault e =
     let same : why.Number ≡ fault = cc in
     subst (λ (f : Why). put_line c.args.head.now c.args.text.now ≡ Err f) same (put_no_layer c.args.head.now c.args.text.now c.in-Some.place number past)
 
-pub returns-in_err-value-clause-memory : goal.returns-in_err-value-clause-memory
-returns-in_err-value-clause-memory c is =
-    let number : number_of (first_word (next_field c.args.text.now)) ≡ Some c.in-Some.place = search rules in
-    let within : c.in-Some.place < length c.args.head.now.layers = search (rules, arith) in
-    put_late c.args.head.now c.args.text.now c.in-Some.place number within
-
-pub returns-in_default-2-clause-fault : goal.returns-in_default-2-clause-fault
-returns-in_default-2-clause-fault c fault e =
-    let number : number_of (first_word (next_field c.args.text.now)) ≡ Some c.in-Some.place = search rules in
-    let within : c.in-Some.place < length c.args.head.now.layers = search (rules, arith) in
-    let none : data_of (next_field (next_field c.args.text.now)) ≡ None = search rules in
-    let same : why.Feature feature.Json ≡ fault = cc in
-    subst (λ (f : Why). put_line c.args.head.now c.args.text.now ≡ Err f) same (put_no_json c.args.head.now c.args.text.now c.in-Some.place number none within)
-
-pub returns-clause-memory : goal.returns-clause-memory
-returns-clause-memory c is =
+pub returns-in-Err-Memory-clause-memory : goal.returns-in-Err-Memory-clause-memory
+returns-in-Err-Memory-clause-memory c is =
     let number : number_of (first_word (next_field c.args.text.now)) ≡ Some c.in-Some.place = search rules in
     let within : c.in-Some.place < length c.args.head.now.layers = search (rules, arith) in
     put_late c.args.head.now c.args.text.now c.in-Some.place number within

@@ -6,7 +6,6 @@ use Rattle.session_text.specs.declared.status.Status.TheVariants.{BadLine, Memor
 use Rattle.query_server.specs.Running.{IsStopped}
 use Rattle.query_server.proofs.Moves.{Took, more_at, more_fits, ready_can, last_can, ready_goes, ready_fits, last_stops, fault_stops, line_wants, unwritten}
 use Rattle.query_server.proofs.running.Running.line.Goals as goal
-use Rattle.query_server.proofs.running.Running.line.Goals.{In-Ok-More, In-Ok-Ready, In-Ok-Last}
 
 pub answer-requires : goal.answer-requires
 answer-requires g c =

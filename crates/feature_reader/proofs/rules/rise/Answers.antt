@@ -3,7 +3,7 @@ use Rattle.std.proofs.lemmas.List.Sorted.{answers_always}
 use Rattle.std.proofs.lemmas.List.Filters.{dedup_is}
 use Rattle.geo_base.specs.TileView.{TileView}
 use Rattle.feature_reader.proofs.Rising.{rising_is}
-use Rattle.feature_reader.proofs.read_feature.rise.Goals as goal
+use Rattle.feature_reader.proofs.rules.rise.Goals as goal
 
 abbrev place : TileView → ℕ × ℕ
 place t = (t.x, t.y)
