@@ -40,7 +40,7 @@ fn named(
     let text = format!(in alloc;
         "{{\"id\":{id},\"properties\":{{\"carmen:text\":\"{name}\",\"carmen:zxy\":[{tiles}]}}}}"
     ).expect(rt, "memory");
-    match feature_of(rt, alloc, layer, text.as_str()) {
+    match feature_of(rt, alloc, layer, &Langs::new(alloc), text.as_str()) {
         Ok(feature) => feature,
         Err(_) => panic!(rt; "no feature"),
     }

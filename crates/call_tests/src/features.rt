@@ -3,14 +3,18 @@
 ghost use Rattle.std.specs.Prelude.{◌≡◌, ◌<◌, true};
 ghost use Rattle.feature_reader.specs.FeatureView.{zoom_of};
 
-use feature_reader::feature::Feature;
-use feature_reader::read_feature::read_feature;
+use crate::layers::langs_of;
+use feature_reader::feature::{Feature, FeatureFault};
+use feature_reader::phrase::Phrase;
+use feature_reader::read_feature::{FeatureReader, read_feature};
 use feature_reader::table::FeatureTable;
 use feature_reader::taker::{PutFault, Taken, Taker};
+use geo_base::lang_set::LangSet;
 use geo_base::refusal::Refused;
 use geo_layer::langs::Langs;
 use geo_layer::layer::Layer;
 use geo_text::text::Text;
+use geo_text::token_map::TokenMap;
 use session_text::status::{Status, status_text};
 use session_text::why::Why;
 use session_text::write::write_put;
@@ -22,14 +26,18 @@ pub fn place(rt: &impl Abort, alloc: Global) -> Layer {
     Layer::new(alloc, Text::of(alloc, "place").expect(rt, "memory"), 6)
 }
 
-/// The feature of a layer that a text stands for, or its fault as that of line 1.
-pub fn feature_of(
+/// A layer of zoom 6 whose highest score is 100.
+fn scaled(rt: &impl Abort, alloc: Global) -> Layer {
+    let name = Text::of(alloc, "place").expect(rt, "memory");
+    Layer::from_parts(name, 6, None, 100, TokenMap::new(alloc))
+}
+
+/// What was read, a fault as that of line 1.
+fn read_in_line(
     rt: &impl Abort,
-    alloc: Global,
-    layer: &Layer,
-    text: &str,
+    read: Result<Feature, Refused<FeatureFault>>,
 ) -> Result<Feature, Status> {
-    match read_feature(alloc, layer, &Langs::new(alloc), text.as_bytes()) {
+    match read {
         Ok(feature) => Ok(feature.copy().expect(rt, "memory")),
         Err(Refused::Fault(fault)) => Err(Status::BadLine {
             line: 1,
@@ -39,12 +47,40 @@ pub fn feature_of(
     }
 }
 
+/// The feature of a layer that a text stands for where these languages are listed, or its fault as that of line 1.
+pub fn feature_of(
+    rt: &impl Abort,
+    alloc: Global,
+    layer: &Layer,
+    langs: &Langs,
+    text: &str,
+) -> Result<Feature, Status> {
+    read_in_line(rt, read_feature(alloc, layer, langs, text.as_bytes()))
+}
+
+/// Appends a set of languages as its number; where it has bit 127, as an exclamation mark and the number of those that it
+/// lacks.
+fn push_set(rt: &impl Abort, out: &mut String, set: LangSet) {
+    if set.has(127) {
+        write!(out, "!{}", !set.bits).expect(rt, "memory");
+    } else {
+        write!(out, "{}", set.bits).expect(rt, "memory");
+    }
+}
+
+/// Appends the parts of a phrase: its tokens, its languages and its relevance.
+fn push_phrase(rt: &impl Abort, out: &mut String, phrase: &Phrase) {
+    write!(out, " {} ", phrase.text.as_str()).expect(rt, "memory");
+    push_set(rt, out, phrase.set);
+    write!(out, " {};", phrase.relev).expect(rt, "memory");
+}
+
 /// The parts of a feature.
 fn told(rt: &impl Abort, alloc: Global, feature: &Feature) -> String {
     let (id, score) = (feature.id(), feature.score());
     let mut out = format!(in alloc; "{id} {score}:").expect(rt, "memory");
     for phrase in feature.phrases().as_slice() {
-        write!(out, " {} {};", phrase.text.as_str(), phrase.relev).expect(rt, "memory");
+        push_phrase(rt, &mut out, phrase);
     }
     for tile in feature.tiles().as_slice() {
         write!(out, " {}/{}/{}", tile.z, tile.x, tile.y).expect(rt, "memory");
@@ -52,29 +88,57 @@ fn told(rt: &impl Abort, alloc: Global, feature: &Feature) -> String {
     out
 }
 
-/// Texts, and what is told of them in a layer of zoom 6.
-const TEXTS: [(&str, &str); 10] = [
+/// Texts, and what is told of them in the layer `place`, where `fr` and `en` are listed.
+const TEXTS: [(&str, &str); 18] = [
     (
         "{\"id\":7,\"properties\":{\"carmen:score\":9,\"carmen:text\":\"New York,NYC,,nyc\",\"carmen:zxy\":[\"6/33/32\",\"6/32/32\",\"6/33/32\"]}}",
-        "7 9: new york 100; nyc 80; 6/32/32 6/33/32",
+        "7 9: new york !0 100; nyc !0 80; 6/32/32 6/33/32",
     ),
     (
         "{\"id\":67108863,\"properties\":{\"carmen:text\":\"1 2 3 4 5 6 7 8 9 10 11 12 13 14 15 16 17 18 19 20 21,B\",\"carmen:zxy\":[\"6/63/63\"],\"carmen:score\":-1}}",
-        "67108863 0: b 100; 6/63/63",
+        "67108863 0: b !0 100; 6/63/63",
+    ),
+    (
+        "{\"id\":1,\"properties\":{\"carmen:text\":\"USA\",\"carmen:text_fr\":\"États-Unis\",\"carmen:text_en\":\"America\",\"carmen:text_xx\":\"Amerika\",\"carmen:zxy\":[\"6/0/0\"]}}",
+        "1 0: usa !3 100; america 2 100; etats unis 1 100; amerika 0 100; 6/0/0",
+    ),
+    (
+        "{\"id\":1,\"properties\":{\"carmen:text\":\"Köln,Cologne\",\"carmen:text_fr\":\"Cologne\",\"carmen:zxy\":[\"6/0/0\"],\"carmen:relev\":60,\"carmen:score\":-3}}",
+        "1 0: koln !1 60; cologne !1 60; cologne 1 60; 6/0/0",
     ),
     ("{\"id\":1", "carmen: line 1: 10 Feature 1 Json"),
     ("{\"properties\":{}}", "carmen: line 1: 10 Feature 2 Id"),
     (
+        "{\"id\":67108864,\"properties\":{}}",
+        "carmen: line 1: 10 Feature 2 Id",
+    ),
+    (
         "{\"id\":67108863,\"properties\":{}}",
         "carmen: line 1: 10 Feature 3 Text",
+    ),
+    (
+        "{\"id\":1,\"properties\":{\"carmen:text\":\"a\",\"carmen:text_fr\":1}}",
+        "carmen: line 1: 10 Feature 3 Text",
+    ),
+    (
+        "{\"id\":1,\"properties\":{\"carmen:text\":\"a\"}}",
+        "carmen: line 1: 10 Feature 4 Zxy",
     ),
     (
         "{\"id\":1,\"properties\":{\"carmen:text\":\"a\",\"carmen:zxy\":[]}}",
         "carmen: line 1: 10 Feature 4 Zxy",
     ),
     (
+        "{\"id\":1,\"properties\":{\"carmen:text\":\"a\",\"carmen:zxy\":[\"6/64/0\"]}}",
+        "carmen: line 1: 10 Feature 4 Zxy",
+    ),
+    (
         "{\"id\":1,\"properties\":{\"carmen:text\":\"a\",\"carmen:zxy\":[\"7/0/0\",\"6/64/0\"]}}",
         "carmen: line 1: 10 Feature 4 Zxy",
+    ),
+    (
+        "{\"id\":1,\"properties\":{\"carmen:text\":\"a\",\"carmen:zxy\":[\"7/0/0\"]}}",
+        "carmen: line 1: 10 Feature 5 Zoom",
     ),
     (
         "{\"id\":1,\"properties\":{\"carmen:text\":\"a\",\"carmen:zxy\":[\"6/0/0\",\"7/0/0\"]}}",
@@ -85,25 +149,52 @@ const TEXTS: [(&str, &str); 10] = [
         "carmen: line 1: 10 Feature 6 Score",
     ),
     (
+        "{\"id\":1,\"properties\":{\"carmen:text\":\"a\",\"carmen:zxy\":[\"6/0/0\"],\"carmen:relev\":50}}",
+        "carmen: line 1: 10 Feature 7 Relev",
+    ),
+    (
         "{\"id\":1,\"properties\":{\"carmen:text\":\"a\",\"carmen:zxy\":[\"6/0/0\"],\"carmen:score\":18446744073709551615}}",
-        "1 15: a 100; 6/0/0",
+        "1 15: a !0 100; 6/0/0",
     ),
 ];
 
-/// The parts of the feature that a text stands for in the layer `place`, or its fault as that of line 1.
-fn told_of(rt: &impl Abort, alloc: Global, text: &str) -> Text {
-    match feature_of(rt, alloc, &place(rt, alloc), text) {
+/// Texts, and what is told of them in a layer whose highest score is 100.
+const SCALED: [(&str, &str); 2] = [
+    (
+        "{\"id\":1,\"properties\":{\"carmen:text\":\"a\",\"carmen:zxy\":[\"6/0/0\"],\"carmen:score\":1}}",
+        "1 1: a !0 100; 6/0/0",
+    ),
+    (
+        "{\"id\":1,\"properties\":{\"carmen:text\":\"a\",\"carmen:zxy\":[\"6/0/0\"],\"carmen:score\":-3}}",
+        "1 0: a !0 100; 6/0/0",
+    ),
+];
+
+/// The parts of the feature that was read, or its fault as that of line 1.
+fn told_of(rt: &impl Abort, alloc: Global, read: Result<Feature, Refused<FeatureFault>>) -> Text {
+    match read_in_line(rt, read) {
         Ok(feature) => Text::from_string(told(rt, alloc, &feature)),
         Err(status) => Text::of(alloc, status_text(&status).as_str()).expect(rt, "memory"),
+    }
+}
+
+/// Tries each text in a layer, by one reader after another text and alone.
+fn try_each(rt: &impl Abort, alloc: Global, layer: &Layer, rows: &[(&str, &str)]) {
+    let langs = langs_of(rt, alloc, "fr en").expect(rt, "languages");
+    let mut reader = FeatureReader::new(alloc);
+    for (text, wanted) in rows {
+        let told = told_of(rt, alloc, reader.read(layer, &langs, text.as_bytes()));
+        assert!(rt; told.as_str() == *wanted, "{text}");
+        let alone = read_feature(alloc, layer, &langs, text.as_bytes());
+        assert!(rt; told_of(rt, alloc, alone).as_str() == *wanted, "{text}");
     }
 }
 
 #[test]
 fn texts_stand_for_features_or_have_faults(rt: HostRuntime) {
     let alloc = rt.alloc();
-    for (text, wanted) in TEXTS {
-        assert!(rt; told_of(&rt, alloc, text).as_str() == wanted, "{text}");
-    }
+    try_each(&rt, alloc, &place(&rt, alloc), TEXTS.as_slice());
+    try_each(&rt, alloc, &scaled(&rt, alloc), SCALED.as_slice());
 }
 
 /// The text of a feature with so many phrases and tiles, which are listed from the last to the first.
@@ -124,7 +215,13 @@ fn large_text(rt: &impl Abort, alloc: Global, id: u32, phrases: u32, tiles: u32)
 /// That feature in the layer `place`.
 fn large(rt: &impl Abort, alloc: Global, id: u32, phrases: u32, tiles: u32) -> Feature {
     let text = large_text(rt, alloc, id, phrases, tiles);
-    match feature_of(rt, alloc, &place(rt, alloc), text.as_str()) {
+    match feature_of(
+        rt,
+        alloc,
+        &place(rt, alloc),
+        &Langs::new(alloc),
+        text.as_str(),
+    ) {
         Ok(feature) => feature,
         Err(_) => panic!(rt; "no feature"),
     }
@@ -134,9 +231,9 @@ fn large(rt: &impl Abort, alloc: Global, id: u32, phrases: u32, tiles: u32) -> F
 fn a_feature_has_thousands_of_phrases_and_tiles(rt: HostRuntime) {
     let alloc = rt.alloc();
     let feature = large(&rt, alloc, 1, 5000, 4096);
-    let mut wanted = format!(in alloc; "1 0: part 0 100;").expect(&rt, "memory");
+    let mut wanted = format!(in alloc; "1 0: part 0 !0 100;").expect(&rt, "memory");
     for n in 1..5000u32 {
-        write!(wanted, " part {n} 80;").expect(&rt, "memory");
+        write!(wanted, " part {n} !0 80;").expect(&rt, "memory");
     }
     for n in 0..4096u32 {
         write!(wanted, " 6/{}/{}", n / 64, n % 64).expect(&rt, "memory");

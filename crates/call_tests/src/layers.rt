@@ -1,5 +1,6 @@
 //! Languages, layers and heads.
 
+use crate::texts::push_replacements;
 use geo_base::refusal::Refused;
 use geo_layer::head::Head;
 use geo_layer::langs::{Langs, read_langs};
@@ -52,13 +53,15 @@ fn push_words(rt: &impl Abort, out: &mut String, words: &[Text]) {
     }
 }
 
-/// Appends the parts of a layer.
+/// Appends the parts of a layer, its replacements on lines of their own.
 fn push_layer(rt: &impl Abort, out: &mut String, layer: &Layer) {
     let (name, zoom, scoremax) = (layer.name(), layer.zoom(), layer.scoremax());
-    write!(out, "\n{name} {zoom} {scoremax}").expect(rt, "memory");
+    write!(out, "{name} {zoom} {scoremax}").expect(rt, "memory");
     if let Some(words) = layer.stack() {
         push_words(rt, out, words.as_slice());
     }
+    write!(out, "\n").expect(rt, "memory");
+    push_replacements(rt, out, layer.tokens());
 }
 
 /// The languages and the layers of a head.
@@ -67,6 +70,7 @@ fn told(rt: &impl Abort, alloc: Global, head: &Head) -> String {
     for place in 0..head.langs.len() {
         write!(out, "{} ", head.langs.at(place).as_str()).expect(rt, "memory");
     }
+    write!(out, "\n").expect(rt, "memory");
     for place in 0..head.layers.len() {
         push_layer(rt, &mut out, head.layers.at(place));
     }
@@ -78,15 +82,16 @@ fn the_largest_head_is_read_and_copied(rt: HostRuntime) {
     let alloc = rt.alloc();
     let mut wanted = codes(&rt, alloc, 127);
     let langs = langs_of(&rt, alloc, wanted.as_str()).expect(&rt, "languages");
+    write!(wanted, "\n").expect(&rt, "memory");
     let mut layers = Layers::new(alloc);
     for n in 0..16u32 {
         let text = format!(in alloc;
-            "{{\"name\":\"layer-{n}\",\"stack\":[\"word\",\"w{n}\",\"another_word_of_the_stack\"],\"zoom\":{n}}}"
+            "{{\"name\":\"layer-{n}\",\"stack\":[\"word\",\"w{n}\",\"another_word_of_the_stack\"],\"tokens\":{{\"St\":\"STREET\",\"Nº{n}\":\"Straße\"}},\"zoom\":{n}}}"
         ).expect(&rt, "memory");
         assert!(rt; add_layer(&rt, alloc, text.as_str(), &mut layers).is(&Status::Done));
         write!(
             wanted,
-            "\nlayer-{n} {n} 15 word w{n} another_word_of_the_stack"
+            "layer-{n} {n} 15 word w{n} another_word_of_the_stack\nnº{n} strasse\nst street\n"
         )
         .expect(&rt, "memory");
     }
@@ -95,7 +100,8 @@ fn the_largest_head_is_read_and_copied(rt: HostRuntime) {
 }
 
 /// Texts behind 14 layers, and what is told of each.
-const FAULTS: [(&str, &str); 9] = [
+const FAULTS: [(&str, &str); 10] = [
+    ("[]", "carmen: line 1: 7 Layer 1 Json"),
     ("{\"name\":\"a\"", "carmen: line 1: 7 Layer 1 Json"),
     (
         "{\"name\":\"A\",\"zoom\":6}",

@@ -14,6 +14,8 @@ mod layers;
 #[cfg(test)]
 mod lists;
 #[cfg(test)]
+mod members;
+#[cfg(test)]
 mod queries;
 #[cfg(test)]
 mod replies;

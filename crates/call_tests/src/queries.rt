@@ -6,7 +6,6 @@ use geo_base::tile_box::TileBox;
 use geo_query::query::Query;
 use geo_query::read_query::read_query;
 use geo_query::reply::Reply;
-use geo_text::cut::ascii;
 use geo_text::text::Text;
 use session_text::write::write_reply;
 use std::alloc::Global;
@@ -14,7 +13,6 @@ use std::process::Abort;
 
 /// The query that a line spells, or the reply that tells its fault.
 pub fn query_of(rt: &impl Abort, alloc: Global, line: &str) -> Result<Query, Reply> {
-    let line = ascii(line.as_bytes()).expect(rt, "ASCII");
     match read_query(alloc, line) {
         Ok(query) => Ok(query),
         Err(Refused::Fault(fault)) => Err(Reply::Unreadable(fault)),
@@ -51,7 +49,7 @@ fn told(rt: &impl Abort, alloc: Global, query: &Result<Query, Reply>) -> Vec<u8>
 }
 
 /// The front of a line, a text that stands so often behind it, and what is told of the line.
-const LINES: [(&str, &str, u32, &str); 10] = [
+const LINES: [(&str, &str, u32, &str); 13] = [
     (
         "",
         " Ab",
@@ -77,6 +75,9 @@ const LINES: [(&str, &str, u32, &str); 10] = [
         "xxx true zh_Hant 16/1/2/3/65535",
     ),
     ("auto=0|a=b|auto=1 |", "", 0, "a b auto 1 false -"),
+    ("lang=fr | ", "É", 3, "eee true fr"),
+    ("", "é,", 128, "ask 0 0 unreadable 5 Tokens\n"),
+    ("", "é", 257, "ask 0 0 unreadable 3 Long\n"),
 ];
 
 #[test]

@@ -28,7 +28,7 @@ pub const BASE: &str =
 /// What is written for them.
 pub const BASE_OUT: &str = "put 0 1 new\nput 2 2 new\npublished 1\n";
 
-pub const ROWS: [Row; 33] = [
+pub const ROWS: [Row; 37] = [
     Row {
         name: "a city and its country",
         session: &[(BASE, 0, 0), ("ask 0 new york usa\nend\n", 0, 0)],
@@ -424,17 +424,23 @@ pub const ROWS: [Row; 33] = [
     },
     Row {
         name: "texts in a language, and one that isn't listed",
-        session: &[(
-            "carmen 1\nlangs fr\nlayer {\"name\":\"country\",\"zoom\":6}\nput 0 {\"id\":1,\"properties\":{\"carmen:text\":\"USA\",\"carmen:text_fr\":\"États-Unis\",\"carmen:zxy\":[\"6/32/32\",\"6/33/32\"]}}\npublish\nask 0 lang=fr | usa\nask 0 lang=fr | etats unis\nask 0 lang=xx | usa\nask 0 ÉTATS-UNIS\nend\n",
-            0,
-            0,
-        )],
+        session: &[
+            (LAYERS, 0, 0),
+            (
+                "put 0 {\"id\":1,\"properties\":{\"carmen:text\":\"USA\",\"carmen:text_fr\":\"États-Unis\",\"carmen:zxy\":[\"6/32/32\",\"6/33/32\"]}}\nput 2 {\"id\":2,\"properties\":{\"carmen:text\":\"New York,NYC\",\"carmen:zxy\":[\"6/32/32\"],\"carmen:score\":9}}\npublish\nask 0 lang=fr | usa\nask 0 lang=fr | etats unis\nask 0 lang=xx | usa\nask 0 ÉTATS-UNIS\nend\n",
+                0,
+                0,
+            ),
+        ],
         status: Status::Done,
-        text: &[(
-            "put 0 1 new\npublished 1\nask 0 0 gen 1 found 1\ncontext 9600/10000 score 0 0:1@6/32/32[0,1)=9600\nask 0 1 gen 1 found 1\ncontext 20000/20000 score 0 0:1@6/32/32[0,2)=20000\nask 0 2 gen 1 found 1\ncontext 10000/10000 score 0 0:1@6/32/32[0,1)=10000\nask 0 3 gen 1 found 1\ncontext 20000/20000 score 0 0:1@6/32/32[0,2)=20000\n",
-            0,
-            0,
-        )],
+        text: &[
+            (BASE_OUT, 0, 0),
+            (
+                "ask 0 0 gen 1 found 1\ncontext 9600/10000 score 0 0:1@6/32/32[0,1)=9600\nask 0 1 gen 1 found 1\ncontext 20000/20000 score 0 0:1@6/32/32[0,2)=20000\nask 0 2 gen 1 found 1\ncontext 10000/10000 score 0 0:1@6/32/32[0,1)=10000\nask 0 3 gen 1 found 1\ncontext 20000/20000 score 0 0:1@6/32/32[0,2)=20000\n",
+                0,
+                0,
+            ),
+        ],
     },
     Row {
         name: "replaced tokens",
@@ -463,6 +469,64 @@ pub const ROWS: [Row; 33] = [
             0,
             0,
         )],
+    },
+    Row {
+        name: "a byte order mark and an unassigned character part tokens",
+        session: &[
+            (LAYERS, 0, 0),
+            (
+                "put 2 {\"id\":1,\"properties\":{\"carmen:text\":\"a\u{feff}b,c\u{378}d\",\"carmen:zxy\":[\"6/1/1\"]}}\npublish\nask 0 \u{feff}a b\nask 0 c\u{378}d\nend\n",
+                0,
+                0,
+            ),
+        ],
+        status: Status::Done,
+        text: &[(
+            "put 2 1 new\npublished 1\nask 0 0 gen 1 found 1\ncontext 20000/20000 score 0 2:1@6/1/1[0,2)=20000\nask 0 1 gen 1 found 1\ncontext 16000/20000 score 0 2:1@6/1/1[0,2)=16000\n",
+            0,
+            0,
+        )],
+    },
+    Row {
+        name: "a byte order mark before the head",
+        session: &[("\u{feff}", 0, 0), (BASE, 0, 0), ("end\n", 0, 0)],
+        status: Status::BadLine {
+            line: 1,
+            why: Why::Head,
+        },
+        text: &[],
+    },
+    Row {
+        name: "half of a surrogate pair",
+        session: &[
+            (LAYERS, 0, 0),
+            (
+                "put 0 {\"id\":1,\"properties\":{\"carmen:text\":\"\\ud800\",\"carmen:zxy\":[\"6/1/1\"]}}\nend\n",
+                0,
+                0,
+            ),
+        ],
+        status: Status::BadLine {
+            line: 6,
+            why: Why::Feature(FeatureFault::Json),
+        },
+        text: &[],
+    },
+    Row {
+        name: "a number beyond a double",
+        session: &[
+            (LAYERS, 0, 0),
+            (
+                "put 0 {\"id\":1,\"properties\":{\"carmen:text\":\"a\",\"carmen:zxy\":[\"6/1/1\"]},\"x\":1e400}\nend\n",
+                0,
+                0,
+            ),
+        ],
+        status: Status::BadLine {
+            line: 6,
+            why: Why::Feature(FeatureFault::Json),
+        },
+        text: &[],
     },
     Row {
         name: "a put that would be too many rows",
