@@ -4,3 +4,4 @@ mod Objects
 mod Owned
 mod Noted
 mod Listed
+pub mod Ordered

@@ -5,9 +5,9 @@ use Rattle.serde_json.specs.Find.{as_object, get_member}
 use Rattle.feature_json.specs.Shape.{Shape, shape}
 use Rattle.geo_base.specs.TileView.{TileView}
 use Rattle.feature_json.specs.Tiles.{all_tiles}
-use Rattle.feature_json.specs.Own.{is_own_name, own_members}
+use Rattle.feature_json.specs.Own.{is_own_name, own_members, put_own}
 use Rattle.feature_json.specs.Said.{SaidValues, values_said, SaidProperties, properties_said, Said, members_said}
-use Rattle.feature_json.specs.Reading.{put_own, Rising}
+use Rattle.feature_json.specs.Reading.{Rising}
 use Rattle.feature_json.proofs.Owned.{own_members-put, own_members-put_other}
 use Rattle.feature_json.proofs.Objects.{same, at_name, at_other}
 

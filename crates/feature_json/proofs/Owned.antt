@@ -9,8 +9,8 @@ use Rattle.std.specs.Ordering.{match_ordering, ordering_reverse}
 use Rattle.serde_json.specs.Data.{Data, Members, no_members, member, put}
 use Rattle.feature_json.specs.Shape.{Shape, shape, shape_of}
 use Rattle.std.specs.BTreeMap.{insert_entry}
-use Rattle.feature_json.specs.Own.{is_own_name, own_members, entry_of}
-use Rattle.feature_json.specs.Reading.{Above, Rising, put_own}
+use Rattle.feature_json.specs.Own.{is_own_name, own_members, own_entry, put_own}
+use Rattle.feature_json.specs.Reading.{Above, Rising}
 use Rattle.feature_json.specs.declared.seen.Seen.{Seen}
 
 -- ---- members rise
@@ -92,11 +92,11 @@ own_members-put_other k d (member l e ms) other = other_at _ k l d e ms refl oth
 
 -- an insertion puts what is seen at its place
 pub entries_put : (name : Bor (List ℕ)) (seen : Seen) (es : List (Bor (List ℕ) × Seen))
-    → map entry_of (insert_entry (λ a b. slice_cmp nat_cmp a.now b.now) es name seen) ≡ put_own name.now (shape_of seen) (map entry_of es)
+    → map own_entry (insert_entry (λ a b. slice_cmp nat_cmp a.now b.now) es name seen) ≡ put_own name.now (shape_of seen) (map own_entry es)
 entries_put name seen [] = refl
 entries_put name seen (e ∷ es) =
-    elim (slice_cmp nat_cmp name.now e.0.now) as (λ o. map entry_of (match_ordering o ((name, seen) ∷ e ∷ es) ((e.0, seen) ∷ es) (e ∷ insert_entry (λ a b. slice_cmp nat_cmp a.now b.now) es name seen)) ≡ match_ordering o ((name.now, shape_of seen) ∷ map entry_of (e ∷ es)) ((e.0.now, shape_of seen) ∷ map entry_of es) (entry_of e ∷ put_own name.now (shape_of seen) (map entry_of es))) [
+    elim (slice_cmp nat_cmp name.now e.0.now) as (λ o. map own_entry (match_ordering o ((name, seen) ∷ e ∷ es) ((e.0, seen) ∷ es) (e ∷ insert_entry (λ a b. slice_cmp nat_cmp a.now b.now) es name seen)) ≡ match_ordering o ((name.now, shape_of seen) ∷ map own_entry (e ∷ es)) ((e.0.now, shape_of seen) ∷ map own_entry es) (own_entry e ∷ put_own name.now (shape_of seen) (map own_entry es))) [
       | Less ↦ refl
       | Equal ↦ refl
-      | Greater ↦ ap (λ l. entry_of e ∷ l) (entries_put name seen es)
+      | Greater ↦ ap (λ l. own_entry e ∷ l) (entries_put name seen es)
     ]

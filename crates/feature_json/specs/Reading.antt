@@ -1,11 +1,10 @@
--- For private contracts alone: tokens that open something, members that rise, and a name at its place.
-use Rattle.std.specs.Prelude.{◌≡◌, ℕ, List, [], ◌∷◌, Bool, true, false, Result, Err, ⊤}
-use Rattle.std.specs.Ordering.{nat_cmp, match_ordering}
+-- For private contracts alone: tokens that open something, and members that rise.
+use Rattle.std.specs.Prelude.{◌≡◌, ℕ, List, Bool, true, false, Result, Err, ⊤}
+use Rattle.std.specs.Ordering.{nat_cmp}
 use Rattle.std.specs.declared.cmp.Ordering.TheVariants.{Less}
 use Rattle.std.specs.Cmp.Lexicographic.{slice_cmp}
 use Rattle.json.specs.Token.{Token}
 use Rattle.serde_json.specs.Data.{Members, no_members, member}
-use Rattle.feature_json.specs.Shape.{Shape}
 use Rattle.feature_json.specs.declared.stop.Stop.{Stop}
 use Rattle.feature_json.specs.declared.stop.Stop.TheVariants as stop
 
@@ -48,8 +47,3 @@ Above name (member other d members) = (slice_cmp nat_cmp name other ≡ Less) ×
 abbrev pub Rising : Members → Type 0
 Rising no_members = ⊤
 Rising (member name d members) = Above name members × Rising members
-
--- a name at its place, where of equal names the last stays
-abbrev pub put_own : List ℕ → Shape → List (List ℕ × Shape) → List (List ℕ × Shape)
-put_own k s [] = (k, s) ∷ []
-put_own k s (o ∷ os) = match_ordering (slice_cmp nat_cmp k o.0) ((k, s) ∷ o ∷ os) ((o.0, s) ∷ os) (o ∷ put_own k s os)

@@ -8,16 +8,16 @@ use Rattle.feature_json.specs.Shape.{Shape, shape, shape_of}
 use Rattle.feature_json.specs.Own.{own_members}
 use Rattle.feature_json.specs.Tiles.{all_tiles}
 use Rattle.feature_json.specs.declared.properties.Properties.{Properties}
-use Rattle.feature_json.specs.declared.members.Members as rust
+use Rattle.feature_json.specs.declared.members.FeatureMembers.{FeatureMembers}
 
--- what is seen of the members of `properties` that count, but for the tiles
+-- what is seen of the members of `properties` that count, but for the tiles: of `carmen:text`, `carmen:score`, `carmen:relev`, and of those whose names begin with `carmen:text_`
 pub record SaidValues : Type 0 where
   pub text : Option Shape
   pub score : Option Shape
   pub relev : Option Shape
   pub own : List (List ℕ × Shape)
 
--- of these members
+-- what is seen of them among the members of `properties`
 abbrev pub values_said : Members → SaidValues
 values_said members =
     record {
@@ -27,21 +27,21 @@ values_said members =
       own = own_members members;
     }
 
--- and the tiles, where they are a list of strings that each name one
+-- these, and the tiles that `carmen:zxy` names, where it is a list of strings that each name one
 pub record SaidProperties : Type 0 where
   pub values : SaidValues
   pub tiles : Option (List TileView)
 
--- of these members
+-- what the members of `properties` say
 abbrev pub properties_said : Members → SaidProperties
 properties_said members = record { values = values_said members; tiles = all_tiles (get_member (codes "carmen:zxy") members) }
 
--- the id as it is seen, and the properties where they are an object
+-- what is seen of `id`, and what `properties` says where it is an object
 pub record Said : Type 0 where
   pub id : Option Shape
   pub properties : Option SaidProperties
 
--- of these members
+-- what the members of an object say of a feature
 abbrev pub members_said : Members → Said
 members_said members =
     record {
@@ -53,19 +53,19 @@ members_said members =
 abbrev pub said : List ℕ → Option Said
 said bytes = option_map members_said (option_and_then as_object (data_of bytes))
 
--- the list of tiles, where nothing was amiss
+-- the tiles, where each entry of the list named one
 abbrev pub kept : Bool → List TileView → Option (List TileView)
 kept true tiles = Some tiles
 kept false tiles = None
 
--- what was read of the properties says
+-- what a `Properties` says, but for the tiles
 abbrev pub values_of : Properties → SaidValues
 values_of p = record { text = option_map shape_of p.text; score = option_map shape_of p.score; relev = option_map shape_of p.relev; own = p.own }
 
--- with these tiles
+-- what a `Properties` says, with the tiles that were read beside it
 abbrev pub properties_of : List TileView → Properties → SaidProperties
 properties_of tiles p = record { values = values_of p; tiles = kept p.tiles_are_named tiles }
 
--- what was read of a feature says, with these tiles
-abbrev pub said_by : List TileView → rust.Members → Said
+-- what a `FeatureMembers` says, with the tiles that were read beside it
+abbrev pub said_by : List TileView → FeatureMembers → Said
 said_by tiles m = record { id = option_map shape_of m.id; properties = option_map (properties_of tiles) m.properties }

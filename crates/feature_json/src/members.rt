@@ -2,7 +2,7 @@
 
 ghost use Rattle.std.specs.Prelude.{◌≡◌, ◌<◌, length, Some, None, IfOk, OnOk, option_map, option_and_then};
 ghost use Rattle.json.specs.Json.{value, members};
-ghost use Rattle.serde_json.specs.Data.{Data, Members as DataMembers, no_members, put};
+ghost use Rattle.serde_json.specs.Data.{Data, Members, no_members, put};
 ghost use Rattle.serde_json.specs.Find.{as_object};
 ghost use Rattle.serde_json.specs.Read.{of_json, of_members, converted, read};
 ghost use Rattle.feature_json.specs.Said.{members_said, said, said_by};
@@ -18,20 +18,20 @@ use std::alloc::Global;
 
 /// The members of a feature that count.
 #[derive(Drop)]
-pub struct Members<'a> {
+pub struct FeatureMembers<'a> {
     /// `id`.
     pub id: Option<Seen<'a>>,
     /// `properties`, where it is an object.
     pub properties: Option<Properties<'a>>,
 }
 
-impl<'a> Members<'a> {
+impl<'a> FeatureMembers<'a> {
     /// No members.
-    fn new() -> Members<'a>
+    fn new() -> FeatureMembers<'a>
         ensures id { result.id ≡ None }
         ensures properties { result.properties ≡ None }
     {
-        Members {
+        FeatureMembers {
             id: None,
             properties: None,
         }
@@ -48,7 +48,7 @@ impl<'a> Members<'a> {
         tiles: &mut Vec<Tile>,
     ) -> Result<(), Stop>
         ensures ok { OnOk result ((d : Data) × (converted of_json (value depth reader.old) ≡ Some (d, reader.new))
-            × ((found : DataMembers) → said_by tiles.old.items self.old ≡ members_said found
+            × ((found : Members) → said_by tiles.old.items self.old ≡ members_said found
             → said_by tiles.new.items self.new ≡ members_said (put name.now d found))) }
         ensures shorter { OnOk result (length reader.new < length reader.old) }
         ensures err { IsInvalid result → converted of_json (value depth reader.old) ≡ None }
@@ -71,15 +71,15 @@ fn read_members<'a>(
     reader: &mut Reader<'a>,
     depth: usize,
     tiles: &mut Vec<Tile>,
-) -> Result<Members<'a>, Stop>
+) -> Result<FeatureMembers<'a>, Stop>
     ensures ok { IfOk result
-        (λ p. (ms : DataMembers) × (converted (λ ms. of_members ms no_members) (members (value depth) (length reader.old) reader.old)
+        (λ p. (ms : Members) × (converted (λ ms. of_members ms no_members) (members (value depth) (length reader.old) reader.old)
         ≡ Some (ms, reader.new)) × (said_by tiles.new.items p ≡ members_said ms)) }
     ensures shorter { OnOk result (length reader.new < length reader.old) }
     ensures err { IsInvalid result
         → converted (λ ms. of_members ms no_members) (members (value depth) (length reader.old) reader.old) ≡ None }
 {
-    let mut found = Members::new();
+    let mut found = FeatureMembers::new();
     'members: while let Some(name) = reader.next_key()? {
         found.read(alloc, name, reader, depth, tiles)?;
     }
@@ -92,7 +92,7 @@ fn read_object<'a>(
     reader: &mut Reader<'a>,
     depth: usize,
     tiles: &mut Vec<Tile>,
-) -> Result<Option<Members<'a>>, Stop>
+) -> Result<Option<FeatureMembers<'a>>, Stop>
     ensures ok { IfOk result
         (λ p. (d : Data) × (converted of_json (value depth reader.old) ≡ Some (d, reader.new))
         × (option_map (said_by tiles.new.items) p ≡ option_map members_said (as_object d))) }
@@ -117,7 +117,7 @@ fn read_text<'a>(
     text: &'a str,
     scratch: &'a mut Scratch<Global>,
     tiles: &mut Vec<Tile>,
-) -> Result<Option<Members<'a>>, Memory>
+) -> Result<Option<FeatureMembers<'a>>, Memory>
     ensures { IfOk result (λ o. option_map (said_by tiles.new.items) o ≡ option_map members_said (option_and_then as_object (read text.now))) }
 {
     let Ok(mut reader) = Reader::new(text, scratch) else {
@@ -147,7 +147,7 @@ pub fn members_of<'a>(
     bytes: &'a [u8],
     scratch: &'a mut Scratch<Global>,
     tiles: &mut Vec<Tile>,
-) -> Result<Option<Members<'a>>, Memory>
+) -> Result<Option<FeatureMembers<'a>>, Memory>
     ensures { IfOk result (λ o. option_map (said_by tiles.new.items) o ≡ said bytes.now) }
 {
     match simdutf8::basic::from_utf8(bytes) {

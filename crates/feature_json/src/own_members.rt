@@ -2,8 +2,7 @@
 
 ghost use Rattle.std.specs.Prelude.{◌≡◌, [], map, OnOk, OnErr};
 ghost use Rattle.feature_json.specs.Shape.{shape_of};
-ghost use Rattle.feature_json.specs.Own.{entry_of};
-ghost use Rattle.feature_json.specs.Reading.{put_own};
+ghost use Rattle.feature_json.specs.Own.{own_entry, put_own};
 
 use crate::seen::Seen;
 use geo_base::refusal::Memory;
@@ -22,11 +21,11 @@ pub struct OwnMembers<'a> {
 impl<'a> Model for OwnMembers<'a> {
     ghost use Rattle.std.specs.Prelude.{ℕ, List, map};
     ghost use Rattle.feature_json.specs.Shape.{Shape};
-    ghost use Rattle.feature_json.specs.Own.{entry_of};
+    ghost use Rattle.feature_json.specs.Own.{own_entry};
 
     ghost Value = { List (List ℕ × Shape) };
 
-    ghost view = { λ o. map entry_of o.by_name.entries };
+    ghost view = { λ o. map own_entry o.by_name.entries };
 }
 
 impl<'a> OwnMembers<'a> {
@@ -51,7 +50,7 @@ impl<'a> OwnMembers<'a> {
 
     /// Lends the members from the first to the last.
     pub fn entries(&self) -> Iter<'_, &'a str, Seen<'a>>
-        ensures { map entry_of result ≡ self.now }
+        ensures { map own_entry result ≡ self.now }
     {
         self.by_name.iter()
     }

@@ -1,6 +1,6 @@
 use Rattle.feature_json.specs.Said.{said_by}
 use Rattle.feature_json.proofs.Noted.{note_id, note_properties, note_no_id}
-use Rattle.feature_json.proofs.members.Members.read.Goals as goal
+use Rattle.feature_json.proofs.members.FeatureMembers.read.Goals as goal
 
 pub returns-then-eq-clause-ok : goal.returns-then-eq-clause-ok
 returns-then-eq-clause-ok c =
