@@ -245,6 +245,9 @@ fn is_combining(c: char) -> bool
 fn is_in_token(c: char) -> bool
     ensures { result ≡ is_token_char c }
 {
+    if c.is_ascii() {
+        return c.is_ascii_alphanumeric(); // most characters, without a look at a table
+    }
     let category = GeneralCategory::for_char(c);
     GeneralCategoryGroup::Letter.contains(category)
         || GeneralCategoryGroup::Mark.contains(category)
