@@ -1,6 +1,6 @@
 //! The members of a feature that count.
 
-use feature_json::members::{Members, members_of};
+use feature_json::members::{FeatureMembers, members_of};
 use feature_json::number::Number;
 use feature_json::properties::Properties;
 use feature_json::seen::Seen;
@@ -41,7 +41,12 @@ fn push_properties(rt: &impl Abort, out: &mut String, properties: &Properties<'_
 }
 
 /// Appends the members that were found, and these tiles.
-fn push_members(rt: &impl Abort, out: &mut String, found: Option<Members<'_>>, tiles: &[Tile]) {
+fn push_members(
+    rt: &impl Abort,
+    out: &mut String,
+    found: Option<FeatureMembers<'_>>,
+    tiles: &[Tile],
+) {
     let Some(members) = found else {
         write!(out, "none").expect(rt, "memory");
         return;

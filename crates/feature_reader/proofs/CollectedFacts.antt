@@ -18,10 +18,11 @@ use Rattle.std.proofs.lemmas.Map.Text.{is_eq-slice_cmp}
 use Rattle.std.proofs.lemmas.Slice.Eq.{bytes_eq-Decides}
 use Rattle.geo_text.specs.Tokens.{Replacements, tokens_of, replaced, joined, are_some_tokens}
 use Rattle.geo_text.specs.Parts.{pieces, ranked}
+use Rattle.geo_layer.specs.Json.{each_of}
 use Rattle.feature_json.specs.Shape.{Shape}
 use Rattle.feature_reader.specs.Languages.{all_languages, bits_of, other_languages}
-use Rattle.feature_reader.specs.Feature.{own_text, own_texts, phrases_of, same_phrase, distinct, all_phrases}
-use Rattle.feature_reader.specs.Collected.{AreSeen, phrase_of_key, key_cmp, with_phrase, with_piece, with_own, without_language, after_texts, after_members}
+use Rattle.feature_reader.specs.Feature.{is_own_text, text_by_code, own_texts, phrases_of, same_phrase, distinct, all_phrases}
+use Rattle.feature_reader.specs.Collected.{own_text, AreSeen, phrase_of_key, key_cmp, with_phrase, with_piece, with_own, without_language, after_texts, after_members}
 use Rattle.feature_reader.specs.declared.phrase.Phrase.{Phrase}
 use Rattle.feature_reader.specs.declared.text_phrases.PhraseKey.{PhraseKey}
 
@@ -151,6 +152,22 @@ phrases_collected replacements cap text set ps = sym (all_pieces set cap (tokens
 
 -- ---- text after text
 
+-- the texts of one more member
+pub own_texts_more : (m : List ℕ × Shape) (members : List (List ℕ × Shape)) → own_texts (m ∷ members) ≡ option_and_then (λ a. option_map (λ b. a ++ b) (own_texts members)) (own_text m)
+own_texts_more m members = elim (is_own_text m) as (λ b. each_of text_by_code (cond b (m ∷ filter is_own_text members) (filter is_own_text members)) ≡ option_and_then (λ a. option_map (λ b. a ++ b) (own_texts members)) (cond b (option_map (λ t. t ∷ []) (text_by_code m)) (Some []))) [
+  | true ↦ one (text_by_code m) (own_texts members)
+  | false ↦ none (own_texts members)
+]
+  where
+    one : (t : Option (List ℕ × List ℕ)) (o : Option (List (List ℕ × List ℕ))) → option_and_then (λ y. option_and_then (λ ys. Some (y ∷ ys)) o) t ≡ option_and_then (λ a. option_map (λ b. a ++ b) o) (option_map (λ t. t ∷ []) t)
+    one None o = refl
+    one (Some t) None = refl
+    one (Some t) (Some ts) = refl
+
+    none : (o : Option (List (List ℕ × List ℕ))) → o ≡ option_map (λ b. [] ++ b) o
+    none None = refl
+    none (Some ts) = refl
+
 module _ {X : Type 0} (f : X → List ℕ × List ℕ → X) where
   after_step : (x : X) (first more : Option (List (List ℕ × List ℕ))) (after : X → X) (own : List (List ℕ × List ℕ))
       → ((rest : List (List ℕ × List ℕ)) → more ≡ Some rest → (y : X) → after y ≡ fold f y rest)
@@ -164,7 +181,7 @@ module _ {X : Type 0} (f : X → List ℕ × List ℕ → X) where
   -- member after member it is text after text
   pub after_own_texts : (members : List (List ℕ × Shape)) (x : X) (own : List (List ℕ × List ℕ)) → own_texts members ≡ Some own → after_members f x members ≡ fold f x own
   after_own_texts [] x own is = let same : [] ≡ own = cc is in ap (fold f x) same
-  after_own_texts (m ∷ members) x own is = after_step x (own_text m) (own_texts members) (λ y. after_members f y members) own (λ rest e y. after_own_texts members y rest e) is
+  after_own_texts (m ∷ members) x own is = after_step x (own_text m) (own_texts members) (λ y. after_members f y members) own (λ rest e y. after_own_texts members y rest e) (sym (own_texts_more m members) ∙ is)
 
 -- the languages without those of the texts
 others_collected : (langs : List (List ℕ)) (own : List (List ℕ × List ℕ)) (set : ℕ) → fold (without_language langs) set own ≡ fold (λ set code. set - bits_of langs code) set (map (λ t. t.0) own)
@@ -194,7 +211,7 @@ feature_collected r langs cap text members own others first all is set begun end
 -- each member is no text in a language or a string
 pub string_members : (members : List (List ℕ × Shape)) → list_all (λ m. is_some (own_text m)) members ≡ is_some (own_texts members)
 string_members [] = refl
-string_members (m ∷ members) = ap (λ b. is_some (own_text m) && b) (string_members members) ∙ both (own_text m) (own_texts members)
+string_members (m ∷ members) = ap (λ b. is_some (own_text m) && b) (string_members members) ∙ both (own_text m) (own_texts members) ∙ ap is_some (sym (own_texts_more m members))
   where
     both : (first more : Option (List (List ℕ × List ℕ))) → (is_some first && is_some more) ≡ is_some (option_and_then (λ a. option_map (λ b. a ++ b) more) first)
     both None more = refl

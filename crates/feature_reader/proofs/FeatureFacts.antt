@@ -9,7 +9,7 @@ use Rattle.geo_layer.specs.Layer.{LayerView}
 use Rattle.feature_json.specs.Shape.{shape_of, present, natural_of, text_of}
 use Rattle.feature_json.specs.Said.{said_by}
 use Rattle.feature_json.specs.declared.properties.Properties.{Properties}
-use Rattle.feature_json.specs.declared.members.Members.{Members}
+use Rattle.feature_json.specs.declared.members.FeatureMembers.{FeatureMembers}
 use Rattle.feature_reader.specs.FeatureView.{FeatureView}
 use Rattle.feature_reader.specs.Tiles.{rising}
 use Rattle.feature_reader.specs.Feature.{feature_in, own_texts, score_of, relevance_of, all_phrases, level}
@@ -22,7 +22,7 @@ there (Some x) e = (x, refl)
 there None e = absurd (cc e)
 
 -- what was read before the zoom is compared
-pub record Known (m : Members) (tiles : List TileView) (p : Properties) (identifier : ℕ) (words : List ℕ) (texts : List (List ℕ × List ℕ)) : Type 0 where
+pub record Known (m : FeatureMembers) (tiles : List TileView) (p : Properties) (identifier : ℕ) (words : List ℕ) (texts : List (List ℕ × List ℕ)) : Type 0 where
   pub properties : m.properties ≡ Some p
   pub id : Some identifier ≡ option_and_then (below 67108864) (option_and_then natural_of (option_map shape_of m.id))
   pub text : Some words ≡ option_and_then text_of (option_map shape_of p.text)
@@ -30,7 +30,7 @@ pub record Known (m : Members) (tiles : List TileView) (p : Properties) (identif
   pub named : p.tiles_are_named ≡ true
   pub some : (nat_le 1 (length tiles) && nat_le (length tiles) 4096) ≡ true
 
-module _ (layer : LayerView) (langs : List (List ℕ)) (m : Members) (tiles : List TileView) (p : Properties) (id : ℕ) (text : List ℕ) (own : List (List ℕ × List ℕ)) (known : Known m tiles p id text own) where
+module _ (layer : LayerView) (langs : List (List ℕ)) (m : FeatureMembers) (tiles : List TileView) (p : Properties) (id : ℕ) (text : List ℕ) (own : List (List ℕ × List ℕ)) (known : Known m tiles p id text own) where
   -- the feature, but for its level and the cap
   abbrev made : ℕ → ℕ → FeatureView
   made n cap = record { id = id; score = n; phrases = all_phrases layer.tokens langs cap text own; tiles = rising tiles }

@@ -8,5 +8,6 @@ mod Levels
 mod FeatureFacts
 mod WorkedFeatures
 mod LanguageFacts
+mod OwnCodes
 mod WorkedLanguages
 pub mod Zooms

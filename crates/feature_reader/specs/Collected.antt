@@ -1,6 +1,6 @@
 -- For private contracts alone: what is made of the texts in languages, member after member, and the phrases collected part after part.
 use denote.Ref.{Bor}
-use Rattle.std.specs.Prelude.{◌≡◌, ℕ, ◌-◌, List, [], ◌∷◌, ◌++◌, min, fold, if◌then◌else◌, Option, Some, None, string_bytes}
+use Rattle.std.specs.Prelude.{◌≡◌, ℕ, ◌-◌, List, [], ◌∷◌, ◌++◌, min, fold, if◌then◌else◌, Option, Some, None, option_map, string_bytes}
 use Rattle.std.specs.List.{list_any}
 use Rattle.std.specs.BTreeSet.{BTreeSet, contains}
 use Rattle.std.specs.String.{string_cmp}
@@ -9,9 +9,13 @@ use Rattle.std.specs.declared.cmp.Ordering.{Ordering}
 use Rattle.geo_text.specs.Tokens.{Replacements, joined, are_some_tokens}
 use Rattle.feature_json.specs.Shape.{Shape}
 use Rattle.feature_reader.specs.Languages.{bits_of}
-use Rattle.feature_reader.specs.Feature.{own_text, phrases_of, same_phrase}
+use Rattle.feature_reader.specs.Feature.{is_own_text, text_by_code, phrases_of, same_phrase}
 use Rattle.feature_reader.specs.declared.phrase.Phrase.{Phrase}
 use Rattle.feature_reader.specs.declared.text_phrases.PhraseKey.{PhraseKey}
+
+-- the text by its code that a member is, as a list: none where the member is another one or null; nothing where it isn't a string
+abbrev pub own_text : List ℕ × Shape → Option (List (List ℕ × List ℕ))
+own_text m = if is_own_text m then option_map (λ t. t ∷ []) (text_by_code m) else Some []
 
 -- a code and a text, where there are some, as a list
 abbrev pub list_of_text : Option (List ℕ × Bor (List ℕ)) → List (List ℕ × List ℕ)

@@ -1,11 +1,11 @@
 -- The feature that a JSON text stands for in a layer, or its first fault.
-use Rattle.std.specs.Prelude.{ℕ, ℤ, pos, negsuc, ◌+◌, ◌-◌, ◌*◌, ◌/◌, Bool, List, [], ◌∷◌, ◌++◌, ◌&&◌, ◌||◌, ◌==◌, not, min, nat_eq, drop, codes, bytes_eq, filter, flat_map, map, if◌then◌else◌, Option, Some, None, option_and_then, option_map, Result, Ok, ok_or}
+use Rattle.std.specs.Prelude.{ℕ, ℤ, pos, negsuc, ◌+◌, ◌-◌, ◌*◌, ◌/◌, Bool, List, [], ◌∷◌, ◌++◌, ◌&&◌, ◌||◌, ◌==◌, not, min, nat_eq, drop, codes, bytes_eq, filter, flat_map, map, if◌then◌else◌, Option, Some, None, is_some, option_and_then, option_map, Result, Ok, ok_or}
 use Rattle.std.specs.List.{list_all, starts_with}
 use Rattle.geo_base.specs.LangCode.{is_code}
 use Rattle.geo_text.specs.Numbers.{below}
 use Rattle.geo_text.specs.Tokens.{Replacements, joined}
 use Rattle.geo_text.specs.Parts.{parts}
-use Rattle.geo_layer.specs.Json.{◌>>=◌, wanted}
+use Rattle.geo_layer.specs.Json.{each_of, ◌>>=◌, wanted}
 use Rattle.geo_layer.specs.Layer.{LayerView}
 use Rattle.feature_json.specs.Shape.{Shape, present, text_of, whole_of, natural_of}
 use Rattle.feature_json.specs.Said.{Said, said}
@@ -20,20 +20,17 @@ use Rattle.feature_reader.specs.declared.feature.FeatureFault.TheVariants as fau
 abbrev pub text_code : List ℕ → Option (List ℕ)
 text_code name = if starts_with nat_eq name (codes "carmen:text_") && is_code (drop 12 name) then Some (drop 12 name) else None
 
--- a text by its code, where the member is there; nothing where it isn't a string
-abbrev pub text_with : Option (List ℕ) → Option Shape → Option (List (List ℕ × List ℕ))
-text_with None s = Some []
-text_with (Some code) None = Some []
-text_with (Some code) (Some s) = option_map (λ text. (code, text) ∷ []) (text_of s)
+-- the member is a text in a language: its name has a code, and it isn't null
+abbrev pub is_own_text : List ℕ × Shape → Bool
+is_own_text m = is_some (text_code m.0) && is_some (present (Some m.1))
 
--- the text by its code that a member is: none where it is another one or null, nothing where it isn't a string
-abbrev pub own_text : List ℕ × Shape → Option (List (List ℕ × List ℕ))
-own_text (name, s) = text_with (text_code name) (present (Some s))
+-- its code, which stands behind the twelve bytes `carmen:text_`, and its text, where it is a string
+abbrev pub text_by_code : List ℕ × Shape → Option (List ℕ × List ℕ)
+text_by_code m = option_map (λ text. (drop 12 m.0, text)) (text_of m.1)
 
--- the texts by code, in the order of the members; nothing where one isn't a string
+-- the texts in languages by their codes, in the order of the members, where each is a string
 abbrev pub own_texts : List (List ℕ × Shape) → Option (List (List ℕ × List ℕ))
-own_texts [] = Some []
-own_texts (m ∷ members) = option_and_then (λ first. option_map (λ more. first ++ more) (own_texts members)) (own_text m)
+own_texts members = each_of text_by_code (filter is_own_text members)
 
 -- the phrases of a text in a set of languages: one for each of its parts
 abbrev pub phrases_of : Replacements → ℕ → List ℕ → ℕ → List Phrase

@@ -14,7 +14,7 @@ use std::marker::Model;
 pub enum FeatureFault {
     /// It isn't JSON, or no object whose `properties` are an object.
     Json,
-    /// `id` is no whole number below 2^26.
+    /// `id` is no whole number from 0 to 67,108,863.
     Id,
     /// `carmen:text` is absent or no string, or a text in a language, `carmen:text_CODE`, is there and no string.
     Text,
@@ -22,7 +22,8 @@ pub enum FeatureFault {
     Zxy,
     /// A tile has another zoom than the layer.
     Zoom,
-    /// `carmen:score` is there and no whole number from -2^63 to 2^64 - 1.
+    /// `carmen:score` is there and no whole number, written without a fraction and an exponent, from -2^63 to 2^64 - 1;
+    /// `-0` is none.
     Score,
     /// `carmen:relev` is there and isn't 40, 60, 80 or 100.
     Relev,

@@ -1,13 +1,14 @@
 //! Worked features and levels, computed from the definitions, and laws of the sets of languages, as the contracts of functions
 //! that do nothing.
 
-ghost use Rattle.std.specs.Prelude.{◌≡◌, ◌-◌, ◌^◌, ◌<◌, ◌≤◌, ◌∷◌, [], List, ℕ, pos, negsuc, codes, length, slice_get, bytes_eq, not, true, false, Some, Ok, Err};
+ghost use Rattle.std.specs.Prelude.{◌≡◌, ◌-◌, ◌^◌, ◌<◌, ◌≤◌, ◌∷◌, [], List, ℕ, pos, negsuc, codes, length, slice_get, bytes_eq, map, not, true, false, Some, Ok, Err};
 ghost use Rattle.std.specs.List.{list_any};
 ghost use Rattle.geo_base.specs.LangSet.{has_bit};
 ghost use Rattle.geo_layer.specs.Langs.{all_differ, are_langs, bit_of};
+ghost use Rattle.feature_json.specs.Said.{Said, SaidProperties, said};
 ghost use Rattle.feature_reader.specs.Languages.{all_languages, bits_of, other_languages};
 ghost use Rattle.feature_reader.specs.Examples.{read, read_with_german, read_with_two, phrase_in, phrase_at, new_york_text, new_york, named};
-ghost use Rattle.feature_reader.specs.Feature.{level};
+ghost use Rattle.feature_reader.specs.Feature.{level, own_texts};
 ghost use Rattle.feature_reader.specs.declared.feature.FeatureFault.TheVariants as fault;
 
 /// Texts and the features or first faults that they stand for, in a layer of zoom 6.
@@ -59,4 +60,9 @@ pub fn a_language_has_its_bit()
     ensures listed_bit { (langs : List (List ℕ)) (k : ℕ) (code : List ℕ) → are_langs langs ≡ true → slice_get langs k ≡ Some code → bit_of langs code ≡ k }
     ensures unlisted_set { (langs : List (List ℕ)) (code : List ℕ) → list_any (bytes_eq code) langs ≡ false → bits_of langs code ≡ 0 }
     ensures unlisted_bit { (langs : List (List ℕ)) (code : List ℕ) → list_any (bytes_eq code) langs ≡ false → bit_of langs code ≡ 127 }
+{}
+
+/// The codes of a feature's texts in languages all differ, as [`other_languages_have_bits`] asks of them.
+pub fn own_codes_differ()
+    ensures differ { (bytes : List ℕ) (s : Said) (p : SaidProperties) (own : List (List ℕ × List ℕ)) → said bytes ≡ Some s → s.properties ≡ Some p → own_texts p.values.own ≡ Some own → all_differ (map (λ t. t.0) own) ≡ true }
 {}

@@ -4,8 +4,8 @@ ghost use Rattle.std.specs.Prelude.{◌≡◌, is_some, if◌then◌else◌, Som
 ghost use Rattle.geo_base.specs.LangCode.{is_code};
 ghost use Rattle.feature_json.specs.Shape.{shape_of};
 ghost use Rattle.feature_reader.specs.Languages.{all_languages, bits_of};
-ghost use Rattle.feature_reader.specs.Feature.{text_code, own_text, own_texts};
-ghost use Rattle.feature_reader.specs.Collected.{list_of_text, after_texts, after_members, without_language};
+ghost use Rattle.feature_reader.specs.Feature.{text_code, own_texts};
+ghost use Rattle.feature_reader.specs.Collected.{own_text, list_of_text, after_texts, after_members, without_language};
 
 use feature_json::own_members::OwnMembers;
 use feature_json::seen::Seen;

@@ -18,8 +18,8 @@ use std::alloc::Global;
 use std::marker::Model;
 
 /// What is needed to read features: room for the tokens of a JSON text, for the tiles that it names and for texts on their
-/// way to tokens. It grows to what the longest text needs and is kept, so that many texts ask for room for their features
-/// only. It has no value that a caller sees, and serves as before after want of memory.
+/// way to tokens. It grows to what the longest text needs and is kept, so that a text asks for room for its feature and,
+/// where there are any, for its texts in languages and for a look-up of many phrases. It has no value that a caller sees, and serves as before after want of memory.
 #[derive(Drop)]
 pub struct FeatureReader {
     alloc: Global,

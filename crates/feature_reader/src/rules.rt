@@ -19,7 +19,7 @@ use crate::relevance::cap_of;
 use crate::score::level_of;
 use crate::text_phrases::all_phrases;
 use crate::tiles::Tiles;
-use feature_json::members::Members;
+use feature_json::members::FeatureMembers;
 use feature_json::number::Number;
 use feature_json::seen::Seen;
 use geo_base::refusal::{Memory, Refused};
@@ -64,7 +64,7 @@ fn is_at_zoom(tile: &Tile, zoom: u8) -> bool
     tile.z == zoom
 }
 
-/// Each tile has this zoom; each is a tile.
+/// Each tile has this zoom. The second clause adds what the type of a tile keeps.
 fn are_at_zoom(tiles: &[Tile], zoom: u8) -> bool
     ensures value { result ≡ list_all (λ t. t.z == zoom) tiles.now }
     ensures are { result ≡ list_all (λ t. t.z == zoom && is_tile t.z t.x t.y) tiles.now }
@@ -127,7 +127,7 @@ pub fn feature_of_members(
     normalizer: &mut Normalizer,
     layer: &Layer,
     langs: &Langs,
-    members: &Members<'_>,
+    members: &FeatureMembers<'_>,
     tiles: &mut Vec<Tile>,
 ) -> Result<Feature, Refused<FeatureFault>>
     ensures feature { IfOk result (λ f. feature_in layer.now langs.now (said_by tiles.old.items members.now) ≡ Ok f) }

@@ -4,8 +4,8 @@ ghost use Rattle.std.specs.Prelude.{◌≡◌, [], List, ℕ, min, fold, Some, I
 ghost use Rattle.geo_text.specs.Tokens.{tokens_of, replaced};
 ghost use Rattle.feature_json.specs.Shape.{shape_of};
 ghost use Rattle.std.specs.List.{list_any};
-ghost use Rattle.feature_reader.specs.Feature.{own_text, own_texts, phrases_of, same_phrase, all_phrases};
-ghost use Rattle.feature_reader.specs.Collected.{AreSeen, phrase_of_key, after_texts, after_members, with_phrase, with_own, with_piece};
+ghost use Rattle.feature_reader.specs.Feature.{own_texts, phrases_of, same_phrase, all_phrases};
+ghost use Rattle.feature_reader.specs.Collected.{own_text, AreSeen, phrase_of_key, after_texts, after_members, with_phrase, with_own, with_piece};
 
 use crate::own_texts::{bits_of, other_languages, own_text};
 use crate::phrase::{Phrase, Phrases};
