@@ -2,11 +2,13 @@ mod CollectedFacts
 mod Tables
 mod Rows
 mod OwnTexts
+mod RowFacts
 mod Rising
 mod PhraseFacts
 mod Levels
 mod FeatureFacts
 mod WorkedFeatures
+mod WorkedRows
 mod LanguageFacts
 mod OwnCodes
 mod WorkedLanguages

@@ -44,7 +44,8 @@ made_of zoom r made tiles f are all e =
     let same : made x ≡ f = cc is in
     subst (AtZoom zoom) same (subst (λ (ts : List TileView). All (λ t. t.z ≡ zoom) ts) (sym (are x)) (rising_all (λ t. t.z ≡ zoom) tiles (test_all zoom tiles all)))
 
-in_zoom : (layer : LayerView) (langs : List (List ℕ)) (said : Said) (f : FeatureView) → feature_in layer langs said ≡ Ok f → AtZoom layer.zoom f
+-- the feature of which this is said
+pub in_zoom : (layer : LayerView) (langs : List (List ℕ)) (said : Said) (f : FeatureView) → feature_in layer langs said ≡ Ok f → AtZoom layer.zoom f
 in_zoom layer langs said f e =
     let (p, is_properties, e₁) = bind_ok (ok_or said.properties fault.Json) _ f e in
     let (id, is_id, e₂) = bind_ok (ok_or (option_and_then (below 67108864) (option_and_then natural_of said.id)) fault.Id) _ f e₁ in

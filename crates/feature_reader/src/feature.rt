@@ -1,4 +1,4 @@
-//! Features, and why a text stands for none.
+//! Features, and why a text or a row stands for none.
 
 ghost use Rattle.std.specs.Prelude.{◌≡◌, ◌↔◌, IsTrue, IfOk};
 ghost use Rattle.feature_reader.specs.FeatureView.{FeatureView, IsFeature};
@@ -9,23 +9,26 @@ use geo_base::refusal::Memory;
 use std::alloc::AllocError;
 use std::marker::Model;
 
-/// Why a text stands for no feature, in the order in which the faults are tried.
+/// Why a JSON text or a row of CSV stands for no feature, in the order in which the faults are tried.
 #[derive(Clone, Copy, Debug, PartialEq, Eq)]
 pub enum FeatureFault {
-    /// It isn't JSON, or no object whose `properties` are an object.
+    /// The text isn't JSON, or no object whose `properties` are an object; the row hasn't four fields, or one of them isn't
+    /// UTF-8.
     Json,
-    /// `id` is no whole number from 0 to 67,108,863.
+    /// `id` is no whole number from 0 to 67,108,863; the first field of the row isn't 1 to 10 digits, or spells more than that.
     Id,
-    /// `carmen:text` is absent or no string, or a text in a language, `carmen:text_CODE`, is there and no string.
+    /// `carmen:text` is absent or no string, or a text in a language, `carmen:text_CODE`, is there and no string;
+    /// never of a row.
     Text,
-    /// `carmen:zxy` is no list of 1 to 4,096 strings that each name a tile.
+    /// `carmen:zxy` is no list of 1 to 4,096 strings that each name a tile; the third field of the row isn't 1 to 4,096 words
+    /// that each name one.
     Zxy,
     /// A tile has another zoom than the layer.
     Zoom,
     /// `carmen:score` is there and no whole number, written without a fraction and an exponent, from -2^63 to 2^64 - 1;
-    /// `-0` is none.
+    /// `-0` is none. The fourth field of the row is neither empty nor 1 to 18 digits behind an optional `-`; `-0` is 0 there.
     Score,
-    /// `carmen:relev` is there and isn't 40, 60, 80 or 100.
+    /// `carmen:relev` is there and isn't 40, 60, 80 or 100; never of a row.
     Relev,
 }
 

@@ -1,14 +1,16 @@
 //! Worked features and levels, computed from the definitions, and laws of the sets of languages, as the contracts of functions
 //! that do nothing.
 
-ghost use Rattle.std.specs.Prelude.{◌≡◌, ◌-◌, ◌^◌, ◌<◌, ◌≤◌, ◌∷◌, [], List, ℕ, pos, negsuc, codes, length, slice_get, bytes_eq, map, not, true, false, Some, Ok, Err};
+ghost use Rattle.std.specs.Prelude.{◌≡◌, ◌≢◌, ◌-◌, ◌^◌, ◌<◌, ◌≤◌, ◌∷◌, [], List, ℕ, pos, negsuc, codes, length, slice_get, bytes_eq, map, not, true, false, Some, Ok, Err};
 ghost use Rattle.std.specs.List.{list_any};
 ghost use Rattle.geo_base.specs.LangSet.{has_bit};
+ghost use Rattle.geo_layer.specs.Layer.{LayerView};
 ghost use Rattle.geo_layer.specs.Langs.{all_differ, are_langs, bit_of};
 ghost use Rattle.feature_json.specs.Said.{Said, SaidProperties, said};
 ghost use Rattle.feature_reader.specs.Languages.{all_languages, bits_of, other_languages};
-ghost use Rattle.feature_reader.specs.Examples.{read, read_with_german, read_with_two, phrase_in, phrase_at, new_york_text, new_york, named};
+ghost use Rattle.feature_reader.specs.Examples.{read, read_with_german, read_with_two, phrase_in, phrase_at, new_york_text, new_york, named, read_row, row, row_of_id, row_of_tiles, row_of_score, row_feature, paris};
 ghost use Rattle.feature_reader.specs.Feature.{level, own_texts};
+ghost use Rattle.feature_reader.specs.Row.{feature_of_row};
 ghost use Rattle.feature_reader.specs.declared.feature.FeatureFault.TheVariants as fault;
 
 /// Texts and the features or first faults that they stand for, in a layer of zoom 6.
@@ -32,6 +34,41 @@ pub fn worked_features()
     ensures unlisted_beside_listed { read_with_german (codes "{\"id\":1,\"properties\":{\"carmen:text\":\"a\",\"carmen:text_de\":\"b\",\"carmen:text_fr\":\"c\",\"carmen:zxy\":[\"6/0/0\"]}}") ≡ Ok (named (phrase_in (all_languages - 1) 100 (codes "a") ∷ phrase_in 1 100 (codes "b") ∷ phrase_in 0 100 (codes "c") ∷ [])) }
     ensures broken_language { read (codes "{\"id\":1,\"properties\":{\"carmen:text\":\"a\",\"carmen:text_de\":1}}") ≡ Err fault.Text }
     ensures low_relevance { read (codes "{\"id\":1,\"properties\":{\"carmen:text\":\"a,b\",\"carmen:zxy\":[\"6/0/0\"],\"carmen:relev\":40}}") ≡ Ok (named (phrase_at 40 (codes "a") ∷ phrase_at 40 (codes "b") ∷ [])) }
+{}
+
+/// Rows and the features or first faults that they stand for, in a layer of zoom 6.
+pub fn worked_rows()
+    ensures paris { read_row (row (codes "7") (codes "Paris,Lutece") (codes "6/1/1 6/2/1") (codes "15")) ≡ Ok paris }
+    ensures no_number { read_row (row (codes "x") (codes "Rome") (codes "6/1/1") (codes "1")) ≡ Err fault.Id }
+    ensures three_fields { read_row ((codes "7") ∷ (codes "Rome") ∷ (codes "6/1/1") ∷ []) ≡ Err fault.Json }
+    ensures five_fields { read_row ((codes "7") ∷ (codes "Rome") ∷ (codes "6/1/1") ∷ (codes "1") ∷ [] ∷ []) ≡ Err fault.Json }
+    ensures no_fields { read_row [] ≡ Err fault.Json }
+    ensures id_no_utf8 { read_row (row (0xC3 ∷ 0x28 ∷ []) (codes "Rome") (codes "6/1/1") (codes "1")) ≡ Err fault.Json }
+    ensures text_no_utf8 { read_row (row (codes "x") (0xC3 ∷ 0x28 ∷ []) (codes "6/1/1") (codes "1")) ≡ Err fault.Json }
+    ensures score_no_utf8 { read_row (row (codes "x") (codes "Rome") (codes "6/1/1") (0xC3 ∷ 0x28 ∷ [])) ≡ Err fault.Json }
+    ensures highest_id { read_row (row_of_id (codes "0067108863")) ≡ Ok (row_feature 67108863 0) }
+    ensures large_id { read_row (row_of_id (codes "67108864")) ≡ Err fault.Id }
+    ensures long_id { read_row (row_of_id (codes "00000000007")) ≡ Err fault.Id }
+    ensures empty_id { read_row (row_of_id []) ≡ Err fault.Id }
+    ensures no_tiles { read_row (row_of_tiles []) ≡ Err fault.Zxy }
+    ensures blank_tiles { read_row (row_of_tiles (codes "  ")) ≡ Err fault.Zxy }
+    ensures broken_tile { read_row (row_of_tiles (codes "6/0/0 6/0")) ≡ Err fault.Zxy }
+    ensures repeated_tile { read_row (row_of_tiles (codes " 6/0/0  6/0/0")) ≡ Ok (row_feature 1 0) }
+    ensures other_zoom { read_row (row_of_tiles (codes "7/0/0")) ≡ Err fault.Zoom }
+    ensures empty_score { read_row (row_of_score []) ≡ Ok (row_feature 1 0) }
+    ensures score_zero { read_row (row_of_score (codes "-0")) ≡ Ok (row_feature 1 0) }
+    ensures below_zero { read_row (row_of_score (codes "-5")) ≡ Ok (row_feature 1 0) }
+    ensures broken_score { read_row (row_of_score (codes "1.5")) ≡ Err fault.Score }
+    ensures plus_score { read_row (row_of_score (codes "+1")) ≡ Err fault.Score }
+    ensures minus_alone { read_row (row_of_score (codes "-")) ≡ Err fault.Score }
+    ensures eighteen_digits { read_row (row_of_score (codes "999999999999999999")) ≡ Ok (row_feature 1 15) }
+    ensures nineteen_digits { read_row (row_of_score (codes "0000000000000000001")) ≡ Err fault.Score }
+{}
+
+/// A row lacks neither a text nor a relevance, so these faults never come of one.
+pub fn rows_have_texts()
+    ensures text { (layer : LayerView) (langs fields : List (List ℕ)) → feature_of_row layer langs fields ≢ Err fault.Text }
+    ensures relev { (layer : LayerView) (langs fields : List (List ℕ)) → feature_of_row layer langs fields ≢ Err fault.Relev }
 {}
 
 /// Levels of scores where 1,000 is the highest.

@@ -1,11 +1,14 @@
-//! Reads features from the bytes of JSON texts, one after another.
+//! Reads features from the bytes of JSON texts and from rows of CSV, one after another.
 
 ghost use Rattle.std.specs.Prelude.{◌≡◌, Ok, Err, IfOk};
 ghost use Rattle.geo_base.specs.declared.refusal.Refused.TheVariants as refused;
 ghost use Rattle.feature_reader.specs.Feature.{feature_of};
+ghost use Rattle.feature_reader.specs.Row.{feature_of_row};
 ghost use Rattle.feature_reader.specs.declared.feature.FeatureFault.{FeatureFault};
 
 use crate::feature::{Feature, FeatureFault};
+use crate::raw::RawRow;
+use crate::row::members_of_row;
 use crate::rules::feature_of_members;
 use feature_json::members::members_of;
 use geo_base::refusal::Refused;
@@ -72,6 +75,43 @@ impl FeatureReader {
             &mut self.tiles,
         )
     }
+
+    /// The feature of the layer that a row of CSV stands for, whose fields are its id, its text, its tiles and its score, or
+    /// the first of its faults, in the order of [`FeatureFault`]:
+    ///
+    /// - `Json` where it hasn't four fields or one of them isn't UTF-8;
+    /// - `Id` where the first isn't 1 to 10 digits or spells more than 67,108,863;
+    /// - `Zxy` where the third, split at spaces, has no part that isn't empty, more than 4,096, repeats counted, or one that
+    ///   names no tile, as `6/33/32` does;
+    /// - `Zoom` where a tile has another zoom than the layer;
+    /// - `Score` where the fourth is neither empty, which counts as 0, nor 1 to 18 digits behind an optional `-`.
+    ///
+    /// The second field is the one text, which speaks for all languages, and no relevance is given. So `Text` and `Relev`
+    /// never come. The phrases, the level and the tiles are made as [`feature_of_members`] says.
+    ///
+    /// Memory may be refused in place of any answer.
+    pub fn read_row(
+        &mut self,
+        layer: &Layer,
+        langs: &Langs,
+        row: &RawRow,
+    ) -> Result<Feature, Refused<FeatureFault>>
+        ensures feature { IfOk result (λ f. feature_of_row layer.now langs.now row.now ≡ Ok f) }
+        ensures fault { (e : FeatureFault) → result ≡ Err (refused.Fault e) → feature_of_row layer.now langs.now row.now ≡ Err e }
+    {
+        let found = members_of_row(self.alloc, row, &mut self.tiles)?;
+        let Some(members) = found else {
+            return Err(Refused::Fault(FeatureFault::Json));
+        };
+        feature_of_members(
+            self.alloc,
+            &mut self.normalizer,
+            layer,
+            langs,
+            &members,
+            &mut self.tiles,
+        )
+    }
 }
 
 /// The feature that [`FeatureReader::read`] gives of one text alone.
@@ -85,4 +125,17 @@ pub fn read_feature(
     ensures fault { (e : FeatureFault) → result ≡ Err (refused.Fault e) → feature_of layer.now langs.now text.now ≡ Err e }
 {
     FeatureReader::new(alloc).read(layer, langs, text)
+}
+
+/// The feature that [`FeatureReader::read_row`] gives of one row alone.
+pub fn read_row(
+    alloc: Global,
+    layer: &Layer,
+    langs: &Langs,
+    row: &RawRow,
+) -> Result<Feature, Refused<FeatureFault>>
+    ensures feature { IfOk result (λ f. feature_of_row layer.now langs.now row.now ≡ Ok f) }
+    ensures fault { (e : FeatureFault) → result ≡ Err (refused.Fault e) → feature_of_row layer.now langs.now row.now ≡ Err e }
+{
+    FeatureReader::new(alloc).read_row(layer, langs, row)
 }

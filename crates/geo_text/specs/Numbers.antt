@@ -7,9 +7,13 @@ use Rattle.std.specs.List.{list_all, slice_split}
 abbrev pub digits_value : List ℕ → ℕ
 digits_value digits = fold (λ n d. n * 10 + (d - 48)) 0 digits
 
+-- the number that 1 digit or more spell, but not more than a bound, leading zeros allowed
+abbrev pub digits_of : ℕ → List ℕ → Option ℕ
+digits_of most text = if nat_le 1 (length text) && (nat_le (length text) most && list_all is_ascii_digit text) then Some (digits_value text) else None
+
 -- a number is 1 to 10 digits, leading zeros allowed
 abbrev pub number_of : List ℕ → Option ℕ
-number_of text = if nat_le 1 (length text) && (nat_le (length text) 10 && list_all is_ascii_digit text) then Some (digits_value text) else None
+number_of text = digits_of 10 text
 
 -- the number, where it is below the bound
 abbrev pub below : ℕ → ℕ → Option ℕ
