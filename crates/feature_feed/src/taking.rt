@@ -1,0 +1,62 @@
+//! Takes what a source has left into memory, up to a limit.
+
+ghost use Rattle.std.specs.Prelude.{◌≡◌, ◌≢◌, ◌≤◌, ◌<◌, ◌+◌, ◌++◌, ℕ, List, Some, Err, IfOk, OnOk, length, take};
+ghost use Rattle.std.specs.Io.KnownBytes.{IsAtEnd};
+ghost use Rattle.geo_outside.specs.Device.{Rose};
+ghost use Rattle.feature_feed.specs.Csv.{most_bytes};
+ghost use Rattle.feature_feed.specs.Taking.{Moved};
+
+use crate::feed::FeedError;
+use geo_outside::device::Source;
+
+/// The most bytes that are taken of a source.
+pub(crate) const MOST_BYTES: usize = 268_435_456;
+
+/// How many bytes a read asks for at most.
+const BLOCK: usize = 65_536;
+
+/// One read, into a block and then behind what was taken. At an error nothing was taken.
+fn take_some<S: Source>(
+    source: &mut S,
+    taken: &mut Vec<u8>,
+    block: &mut [u8],
+) -> Result<usize, FeedError>
+    requires { 0 < length block.old }
+    ensures moved { Moved (S.left source.old) taken.old.items (S.left source.new) taken.new.items }
+    ensures count { IfOk result (λ n. length taken.new.items ≡ length taken.old.items + n) }
+    ensures end { IfOk result (λ n. n ≡ 0 → IsAtEnd (S.left source.new)) }
+    ensures later { S.faults source.old ≤ S.faults source.new }
+    ensures kept { result ≢ Err FeedError.Failed → S.faults source.new ≡ S.faults source.old }
+    ensures cause { result ≡ Err FeedError.Failed → Rose (S.faults source.old) (S.faults source.new) }
+{
+    if taken.reserve(block.len()).is_err() {
+        return Err(FeedError::Memory);
+    }
+    let Ok(n) = source.read(block) else {
+        return Err(FeedError::Failed);
+    };
+    if taken.extend_from_slice(&block[..n]).is_err() {
+        return Err(FeedError::Memory); // there is room
+    }
+    Ok(n)
+}
+
+/// Takes what the source has left behind what was taken, until that is as long as the limit. At an error what was taken
+/// stays, and a later call goes on.
+pub(crate) fn take_source<S: Source>(source: &mut S, taken: &mut Vec<u8>) -> Result<(), FeedError>
+    ensures moved { Moved (S.left source.old) taken.old.items (S.left source.new) taken.new.items }
+    ensures whole { OnOk result ((rest : List ℕ) → S.left source.old ≡ Some rest → take most_bytes taken.new.items ≡ take most_bytes (taken.old.items ++ rest)) }
+    ensures later { S.faults source.old ≤ S.faults source.new }
+    ensures kept { result ≢ Err FeedError.Failed → S.faults source.new ≡ S.faults source.old }
+    ensures cause { result ≡ Err FeedError.Failed → Rose (S.faults source.old) (S.faults source.new) }
+{
+    let mut block = [0u8; BLOCK];
+    while taken.len() < MOST_BYTES {
+        let room = BLOCK.min(MOST_BYTES - taken.len());
+        let n = take_some(source, taken, &mut block[..room])?;
+        if n == 0 {
+            return Ok(());
+        }
+    }
+    Ok(())
+}
