@@ -6,7 +6,8 @@ ghost use Rattle.feature_reader.specs.FeatureView.{zoom_of};
 use crate::layers::langs_of;
 use feature_reader::feature::{Feature, FeatureFault};
 use feature_reader::phrase::Phrase;
-use feature_reader::read_feature::{FeatureReader, read_feature};
+use feature_reader::raw::RawRow;
+use feature_reader::read_feature::{FeatureReader, read_feature, read_row};
 use feature_reader::table::FeatureTable;
 use feature_reader::taker::{PutFault, Taken, Taker};
 use geo_base::lang_set::LangSet;
@@ -195,6 +196,149 @@ fn texts_stand_for_features_or_have_faults(rt: HostRuntime) {
     let alloc = rt.alloc();
     try_each(&rt, alloc, &place(&rt, alloc), TEXTS.as_slice());
     try_each(&rt, alloc, &scaled(&rt, alloc), SCALED.as_slice());
+}
+
+/// Rows, and what is told of them in the layer `place`, where `fr` and `en` are listed.
+const ROWS: [(&[&[u8]], &str); 23] = [
+    (
+        &[b"7", b"Paris,Lutece", b"6/1/1 6/2/1", b"15"],
+        "7 15: paris !0 100; lutece !0 80; 6/1/1 6/2/1",
+    ),
+    (
+        &[b"0067108863", b"K\xC3\xB6ln", b" 6/2/0  6/1/1 6/2/0", b""],
+        "67108863 0: koln !0 100; 6/1/1 6/2/0",
+    ),
+    (
+        &[b"x", b"Rome", b"6/1/1", b"1"],
+        "carmen: line 1: 10 Feature 2 Id",
+    ),
+    (
+        &[b"", b"Rome", b"6/1/1", b"1"],
+        "carmen: line 1: 10 Feature 2 Id",
+    ),
+    (
+        &[b"67108864", b"Rome", b"6/1/1", b"1"],
+        "carmen: line 1: 10 Feature 2 Id",
+    ),
+    (
+        &[b"00000000007", b"Rome", b"6/1/1", b"1"],
+        "carmen: line 1: 10 Feature 2 Id",
+    ),
+    (&[], "carmen: line 1: 10 Feature 1 Json"),
+    (
+        &[b"7", b"Rome", b"6/1/1"],
+        "carmen: line 1: 10 Feature 1 Json",
+    ),
+    (
+        &[b"7", b"Rome", b"6/1/1", b"1", b""],
+        "carmen: line 1: 10 Feature 1 Json",
+    ),
+    (
+        &[b"x", b"Rome", b"6/1/1", b"\xFF"],
+        "carmen: line 1: 10 Feature 1 Json",
+    ),
+    (&[b"7", b"", b"6/1/1", b"1"], "7 1: 6/1/1"),
+    (
+        &[b"7", b"Rome", b"", b"1.5"],
+        "carmen: line 1: 10 Feature 4 Zxy",
+    ),
+    (
+        &[b"7", b"Rome", b"6/1/1,6/2/1", b"1"],
+        "carmen: line 1: 10 Feature 4 Zxy",
+    ),
+    (
+        &[b"7", b"Rome", b"7/0/0 6/64/0", b"1"],
+        "carmen: line 1: 10 Feature 4 Zxy",
+    ),
+    (
+        &[b"7", b"Rome", b"6/0/0 7/0/0", b"1.5"],
+        "carmen: line 1: 10 Feature 5 Zoom",
+    ),
+    (
+        &[b"7", b"Rome", b"6/1/1", b"1.5"],
+        "carmen: line 1: 10 Feature 6 Score",
+    ),
+    (
+        &[b"7", b"Rome", b"6/1/1", b"+1"],
+        "carmen: line 1: 10 Feature 6 Score",
+    ),
+    (
+        &[b"7", b"Rome", b"6/1/1", b"-"],
+        "carmen: line 1: 10 Feature 6 Score",
+    ),
+    (
+        &[b"7", b"Rome", b"6/1/1", b"1000000000000000000"],
+        "carmen: line 1: 10 Feature 6 Score",
+    ),
+    (
+        &[b"7", b"Rome", b"6/1/1", b"999999999999999999"],
+        "7 15: rome !0 100; 6/1/1",
+    ),
+    (
+        &[b"7", b"Rome", b"6/1/1", b"-999999999999999999"],
+        "7 0: rome !0 100; 6/1/1",
+    ),
+    (&[b"7", b"Rome", b"6/1/1", b"-0"], "7 0: rome !0 100; 6/1/1"),
+    (
+        &[b"7", b"Rome", b"6/1/1", b"007"],
+        "7 7: rome !0 100; 6/1/1",
+    ),
+];
+
+/// Tries a row of these fields in a layer, by a reader after another row and alone.
+fn try_row(
+    rt: &impl Abort,
+    alloc: Global,
+    reader: &mut FeatureReader,
+    fields: &[&[u8]],
+    wanted: &str,
+) {
+    let (layer, langs) = (
+        place(rt, alloc),
+        langs_of(rt, alloc, "fr en").expect(rt, "languages"),
+    );
+    let row = RawRow::of(alloc, fields).expect(rt, "memory");
+    let told = told_of(rt, alloc, reader.read_row(&layer, &langs, &row));
+    assert!(rt; told.as_str() == wanted, "{wanted}");
+    let alone = read_row(alloc, &layer, &langs, &row);
+    assert!(rt; told_of(rt, alloc, alone).as_str() == wanted, "{wanted}");
+}
+
+#[test]
+fn rows_stand_for_features_or_have_faults(rt: HostRuntime) {
+    let alloc = rt.alloc();
+    let mut reader = FeatureReader::new(alloc);
+    for (fields, wanted) in ROWS {
+        try_row(&rt, alloc, &mut reader, fields, wanted);
+    }
+}
+
+/// Tries a row that names one tile so many times.
+fn try_long_row(rt: &impl Abort, alloc: Global, tiles: u32, wanted: &str) {
+    let mut zxy = String::new(alloc);
+    for _ in 0..tiles {
+        zxy.push_str(" 6/5/7").expect(rt, "memory");
+    }
+    let fields = [
+        b"1".as_slice(),
+        b"a".as_slice(),
+        zxy.as_bytes(),
+        b"3".as_slice(),
+    ];
+    try_row(
+        rt,
+        alloc,
+        &mut FeatureReader::new(alloc),
+        fields.as_slice(),
+        wanted,
+    );
+}
+
+#[test]
+fn a_row_names_up_to_4096_tiles_repeats_counted(rt: HostRuntime) {
+    let alloc = rt.alloc();
+    try_long_row(&rt, alloc, 4096, "1 3: a !0 100; 6/5/7");
+    try_long_row(&rt, alloc, 4097, "carmen: line 1: 10 Feature 4 Zxy");
 }
 
 /// The text of a feature with so many phrases and tiles, which are listed from the last to the first.

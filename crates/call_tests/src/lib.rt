@@ -10,6 +10,8 @@ mod devices;
 #[cfg(test)]
 mod features;
 #[cfg(test)]
+mod feeds;
+#[cfg(test)]
 mod layers;
 #[cfg(test)]
 mod lists;

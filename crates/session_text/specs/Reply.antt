@@ -7,6 +7,9 @@ use Rattle.feature_reader.specs.declared.taker.PutFault.{PutFault}
 use Rattle.feature_reader.specs.declared.taker.PutFault.TheVariants.{TooManyFeatures, TooManyRows}
 use Rattle.feature_reader.specs.declared.taker.Taken.{Taken}
 use Rattle.feature_reader.specs.declared.taker.Taken.TheVariants.{New, Changed}
+use Rattle.feature_reader.specs.declared.load_report.LoadReport.{LoadReport}
+use Rattle.feature_reader.specs.declared.load_report.LoadEnd.{LoadEnd}
+use Rattle.feature_reader.specs.declared.load_report.LoadEnd.TheVariants.{End, Fault, Limit}
 use Rattle.geo_query.specs.declared.query.QueryFault.{QueryFault}
 use Rattle.geo_query.specs.declared.query.QueryFault.TheVariants.{WrongOption, Box, Long, Empty, Tokens}
 use Rattle.geo_query.specs.declared.reply.Reply.{Reply}
@@ -69,3 +72,17 @@ drop_text layer id gone = codes "drop " ++ decimal layer ++ codes " " ++ decimal
 -- the text of a limit
 abbrev pub limit_text : ℕ → List ℕ
 limit_text n = codes "limit " ++ decimal n ++ codes "\n"
+
+-- how a load ended
+abbrev pub end_text : LoadEnd → List ℕ
+end_text End = codes " end\n"
+end_text Fault = codes " fault\n"
+end_text Limit = codes " limit\n"
+
+-- what a load did: the items read, the bad ones, the refused ones, and how it ended
+abbrev pub report_text : LoadReport → List ℕ
+report_text r = codes " read " ++ decimal r.read ++ codes " bad " ++ decimal r.bad ++ codes " full " ++ decimal r.full ++ end_text r.end
+
+-- the text of a load: its feed, its layer, and what it did
+abbrev pub load_text : ℕ → ℕ → LoadReport → List ℕ
+load_text feed layer r = codes "load " ++ decimal feed ++ codes " " ++ decimal layer ++ report_text r

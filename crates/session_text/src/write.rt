@@ -3,9 +3,10 @@
 ghost use Rattle.std.specs.Prelude.{◌≡◌, ◌≤◌, ◌*◌, ◌++◌, length, decimal, flat_map, sum_by, take, OnOk, OnErr};
 ghost use Rattle.std.specs.Io.{StartsWith};
 ghost use Rattle.geo_base.specs.Order.{target_score};
-ghost use Rattle.session_text.specs.Reply.{tile_text, link_text, context_text, fault_text, answer_text, reply_text, taken_word, put_text, published_text, drop_text, limit_text};
+ghost use Rattle.session_text.specs.Reply.{tile_text, link_text, context_text, fault_text, answer_text, reply_text, taken_word, put_text, published_text, drop_text, end_text, report_text, load_text, limit_text};
 ghost use Rattle.geo_query.specs.declared.reply.Reply.TheVariants.{Unreadable, Grids};
 
+use feature_reader::load_report::{LoadEnd, LoadReport};
 use feature_reader::taker::{PutFault, Taken};
 use geo_base::answer::Contexts;
 use geo_base::link::Link;
@@ -238,6 +239,40 @@ fn push_drop(out: &mut Vec<u8>, layer: u8, id: u32, gone: bool) -> Result<(), Me
     Ok(())
 }
 
+/// How a load ended, as its text says it.
+fn end_text(end: LoadEnd) -> &'static [u8]
+    ensures { result.now ≡ end_text end }
+{
+    match end {
+        LoadEnd::End => b" end\n",
+        LoadEnd::Fault => b" fault\n",
+        LoadEnd::Limit => b" limit\n",
+    }
+}
+
+/// Appends what a load did.
+fn push_report(out: &mut Vec<u8>, report: &LoadReport) -> Result<(), Memory>
+    ensures ok { OnOk result (out.new.items ≡ out.old.items ++ report_text report.now) }
+    ensures err { OnErr result (StartsWith out.new.items out.old.items) }
+{
+    push_number(out, b" read ", u64::from(report.read))?;
+    push_number(out, b" bad ", u64::from(report.bad))?;
+    push_number(out, b" full ", u64::from(report.full))?;
+    push(out, end_text(report.end))?;
+    Ok(())
+}
+
+/// Appends the text of a load: its feed, its layer, and what it did.
+fn push_load(out: &mut Vec<u8>, feed: u32, layer: u8, report: &LoadReport) -> Result<(), Memory>
+    ensures ok { OnOk result (out.new.items ≡ out.old.items ++ load_text feed layer report.now) }
+    ensures err { OnErr result (StartsWith out.new.items out.old.items) }
+{
+    push_number(out, b"load ", u64::from(feed))?;
+    push_number(out, b" ", u64::from(layer))?;
+    push_report(out, report)?;
+    Ok(())
+}
+
 /// Appends the text of a limit.
 fn push_limit(out: &mut Vec<u8>, n: u64) -> Result<(), Memory>
     ensures ok { OnOk result (out.new.items ≡ out.old.items ++ limit_text n) }
@@ -302,6 +337,21 @@ pub fn write_drop(out: &mut Vec<u8>, layer: u8, id: u32, gone: bool) -> Result<(
 {
     let start = out.len();
     let written = push_drop(out, layer, id, gone);
+    undo_failed(out, start, written)
+}
+
+/// Appends the text of a load: its feed, its layer, and what it did.
+pub fn write_load(
+    out: &mut Vec<u8>,
+    feed: u32,
+    layer: u8,
+    report: &LoadReport,
+) -> Result<(), Memory>
+    ensures ok { OnOk result (out.new.items ≡ out.old.items ++ load_text feed layer report.now) }
+    ensures err { OnErr result (out.new.items ≡ out.old.items) }
+{
+    let start = out.len();
+    let written = push_load(out, feed, layer, report);
     undo_failed(out, start, written)
 }
 
