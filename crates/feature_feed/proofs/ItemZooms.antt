@@ -16,7 +16,8 @@ first_is : (zoom : ℕ) (tiles : List TileView) → 0 < length tiles → All (λ
 first_is zoom [] some all = absurd (omega (arith, some))
 first_is zoom (t ∷ tiles) some all = All-head (λ (t : TileView). t.z ≡ zoom) t tiles all
 
-all_zoom : (layer : LayerView) (langs : List (List ℕ)) (item : FeedItem) (f : FeatureView) → feature_of_item layer langs item ≡ Ok f → All (λ t. t.z ≡ layer.zoom) f.tiles
+-- all tiles of the feature of an item have the zoom of its layer
+pub all_zoom : (layer : LayerView) (langs : List (List ℕ)) (item : FeedItem) (f : FeatureView) → feature_of_item layer langs item ≡ Ok f → All (λ t. t.z ≡ layer.zoom) f.tiles
 all_zoom layer langs (Json bytes) f is = feature_zoom layer langs bytes f is
 all_zoom layer langs (Row fields) f is =
     let (said, is_said, found) = bind_ok (ok_or (row_said fields) fault.Json) (λ said. feature_in layer langs said) f is in

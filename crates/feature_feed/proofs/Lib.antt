@@ -3,7 +3,7 @@ mod CsvFeedFacts
 mod FeedLines
 mod Filled
 mod FirstFeed
-mod ItemZooms
+pub mod ItemZooms
 mod LinesLeft
 pub mod SeenWalks
 mod TakingFacts

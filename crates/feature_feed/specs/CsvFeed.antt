@@ -3,6 +3,7 @@ use Rattle.std.specs.Prelude.{ℕ, List, ◌++◌, take, if◌then◌else◌, Op
 use Rattle.std.specs.Option.{is_some}
 use Rattle.std.specs.List.{list_all}
 use Rattle.feature_feed.specs.Csv.{csv_items, row_items, most_bytes}
+use Rattle.feature_feed.specs.Feed.{FeedView, feed_view}
 use Rattle.feature_feed.specs.declared.csv_feed.CsvFeed.{CsvFeed}
 use Rattle.feature_feed.specs.declared.feed.FeedItem.{FeedItem}
 
@@ -22,3 +23,7 @@ csv_given f = f.given
 -- the faults of the source
 abbrev pub csv_faults : {S : Type 0} → (S → ℕ) → CsvFeed S → ℕ
 csv_faults faults f = faults f.source
+
+-- all that it shows
+abbrev pub csv_view : {S : Type 0} → (S → Option (List ℕ)) → (S → ℕ) → CsvFeed S → FeedView
+csv_view left faults f = feed_view (csv_left left f) (csv_given f) (csv_faults faults f)

@@ -50,9 +50,3 @@ onto x left = option_map (λ more. x ∷ more) left
 -- of those that are left, where they are known, there was none, and so it is still
 abbrev pub IsNoneLeft : {A : Type 0} → Option (List A) → Option (List A) → Type 0
 IsNoneLeft {A} before after = (after ≡ before) × ((xs : List A) → before ≡ Some xs → xs ≡ [])
-
--- what a feed shows: the items that are left, where it can tell them, how many were given, and how many pulls have failed
-pub record FeedView : Type 0 where
-  pub left : Option (List FeedItem)
-  pub given : ℕ
-  pub faults : ℕ

@@ -1,5 +1,6 @@
 pub mod Feed
 pub mod Drain
+pub mod Load
 pub mod Steady
 pub mod JsonLines
 pub mod Csv

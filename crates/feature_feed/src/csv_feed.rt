@@ -3,7 +3,7 @@
 ghost use Rattle.std.specs.Prelude.{◌≡◌, ◌≢◌, ◌≤◌, ℕ, List, Option, Some, Err, IfOk, OnErr, take};
 ghost use Rattle.geo_outside.specs.Device.{Rose};
 ghost use Rattle.feature_feed.specs.Csv.{csv_items, most_bytes};
-ghost use Rattle.feature_feed.specs.CsvFeed.{csv_left, csv_given, csv_faults};
+ghost use Rattle.feature_feed.specs.CsvFeed.{csv_left, csv_given, csv_faults, csv_view};
 ghost use Rattle.feature_feed.specs.Feed.{Gives, given_after};
 ghost use Rattle.feature_feed.specs.declared.feed.FeedItem.{FeedItem};
 
@@ -73,11 +73,7 @@ impl<S: Source + Drop> CsvFeed<S> {
 }
 
 impl<S: Source + Drop> Feed for CsvFeed<S> {
-    ghost left = { csv_left S.left };
-
-    ghost given = { csv_given };
-
-    ghost faults = { csv_faults S.faults };
+    ghost shows = { csv_view S.left S.faults };
 
     /// The next row. `Failed` comes only while the source is taken.
     fn next(&mut self) -> Result<Option<FeedItem>, FeedError>

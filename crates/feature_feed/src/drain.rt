@@ -39,13 +39,13 @@ enum Outcome {
 
 /// One pull.
 fn pull(feed: &mut Box<dyn Feed>) -> Result<Option<FeedItem>, FeedError>
-    ensures taken { IfOk result (λ o. (items : List FeedItem) → left feed.old ≡ Some items → Gives items o (left feed.new)) }
-    ensures told { (items : List FeedItem) → left feed.new ≡ Some items → (before : List FeedItem) × (left feed.old ≡ Some before) }
-    ensures unchanged { OnErr result ((items : List FeedItem) → left feed.new ≡ Some items → left feed.old ≡ Some items) }
-    ensures count { given feed.new ≡ given_after (given feed.old) result }
-    ensures later { faults feed.old ≤ faults feed.new }
-    ensures kept { result ≢ Err FeedError.Failed → faults feed.new ≡ faults feed.old }
-    ensures cause { result ≡ Err FeedError.Failed → Rose (faults feed.old) (faults feed.new) }
+    ensures taken { IfOk result (λ o. (items : List FeedItem) → (shows feed.old).left ≡ Some items → Gives items o (shows feed.new).left) }
+    ensures told { (items : List FeedItem) → (shows feed.new).left ≡ Some items → (before : List FeedItem) × ((shows feed.old).left ≡ Some before) }
+    ensures unchanged { OnErr result ((items : List FeedItem) → (shows feed.new).left ≡ Some items → (shows feed.old).left ≡ Some items) }
+    ensures count { (shows feed.new).given ≡ given_after (shows feed.old).given result }
+    ensures later { (shows feed.old).faults ≤ (shows feed.new).faults }
+    ensures kept { result ≢ Err FeedError.Failed → (shows feed.new).faults ≡ (shows feed.old).faults }
+    ensures cause { result ≡ Err FeedError.Failed → Rose (shows feed.old).faults (shows feed.new).faults }
 {
     feed.next()
 }
@@ -158,14 +158,14 @@ fn fill<T: Taker>(
 ) -> Result<LoadReport, Memory>
     requires { T.takes into.old place layer.now.zoom ≡ true }
     ensures layers { T.takes into.new ≡ T.takes into.old }
-    ensures load { IfOk result (λ r. (gave : List FeedItem) × Gave (left feed.old) gave (left feed.new) × IsLoad layer.now langs.now place (T.table into.old) (T.table into.new) r gave) }
-    ensures count { IfOk result (λ r. given feed.new < 18446744073709551615 → given feed.new ≡ given feed.old + r.read) }
-    ensures ended { IfOk result (λ r. r.end ≡ at.End → (r.read < 1048576) × ((items : List FeedItem) → left feed.old ≡ Some items → r.read ≡ length items)) }
-    ensures fault { IfOk result (λ r. r.end ≡ at.Fault → (r.read < 1048576) × Rose (faults feed.old) (faults feed.new)) }
+    ensures load { IfOk result (λ r. (gave : List FeedItem) × Gave (shows feed.old).left gave (shows feed.new).left × IsLoad layer.now langs.now place (T.table into.old) (T.table into.new) r gave) }
+    ensures count { IfOk result (λ r. (shows feed.new).given < 18446744073709551615 → (shows feed.new).given ≡ (shows feed.old).given + r.read) }
+    ensures ended { IfOk result (λ r. r.end ≡ at.End → (r.read < 1048576) × ((items : List FeedItem) → (shows feed.old).left ≡ Some items → r.read ≡ length items)) }
+    ensures fault { IfOk result (λ r. r.end ≡ at.Fault → (r.read < 1048576) × Rose (shows feed.old).faults (shows feed.new).faults) }
     ensures limit { IfOk result (λ r. (r.end ≡ at.Limit) ↔ (r.read ≡ 1048576)) }
-    ensures later { faults feed.old ≤ faults feed.new }
-    ensures kept { IfOk result (λ r. r.end ≢ at.Fault → faults feed.new ≡ faults feed.old) }
-    ensures memory { OnErr result ((gave more : List FeedItem) × Gave (left feed.old) (gave ++ more) (left feed.new) × (T.table into.new ≡ after_items layer.now langs.now place (T.table into.old) gave)) }
+    ensures later { (shows feed.old).faults ≤ (shows feed.new).faults }
+    ensures kept { IfOk result (λ r. r.end ≢ at.Fault → (shows feed.new).faults ≡ (shows feed.old).faults) }
+    ensures memory { OnErr result ((gave more : List FeedItem) × Gave (shows feed.old).left (gave ++ more) (shows feed.new).left × (T.table into.new ≡ after_items layer.now langs.now place (T.table into.old) gave)) }
 {
     let mut reader = FeatureReader::new(alloc);
     let mut report = LoadReport {
@@ -207,14 +207,14 @@ pub fn drain<T: Taker>(
     requires within { layer < length head.now.layers }
     requires takes { (l : LayerView) → slice_get head.now.layers layer ≡ Some l → T.takes into.old layer l.zoom ≡ true }
     ensures layers { T.takes into.new ≡ T.takes into.old }
-    ensures load { (l : LayerView) → slice_get head.now.layers layer ≡ Some l → IfOk result (λ r. (gave : List FeedItem) × Gave (left feed.old) gave (left feed.new) × IsLoad l head.now.langs layer (T.table into.old) (T.table into.new) r gave) }
-    ensures count { IfOk result (λ r. given feed.new < 18446744073709551615 → given feed.new ≡ given feed.old + r.read) }
-    ensures ended { IfOk result (λ r. r.end ≡ at.End → (r.read < 1048576) × ((items : List FeedItem) → left feed.old ≡ Some items → r.read ≡ length items)) }
-    ensures fault { IfOk result (λ r. r.end ≡ at.Fault → (r.read < 1048576) × Rose (faults feed.old) (faults feed.new)) }
+    ensures load { (l : LayerView) → slice_get head.now.layers layer ≡ Some l → IfOk result (λ r. (gave : List FeedItem) × Gave (shows feed.old).left gave (shows feed.new).left × IsLoad l head.now.langs layer (T.table into.old) (T.table into.new) r gave) }
+    ensures count { IfOk result (λ r. (shows feed.new).given < 18446744073709551615 → (shows feed.new).given ≡ (shows feed.old).given + r.read) }
+    ensures ended { IfOk result (λ r. r.end ≡ at.End → (r.read < 1048576) × ((items : List FeedItem) → (shows feed.old).left ≡ Some items → r.read ≡ length items)) }
+    ensures fault { IfOk result (λ r. r.end ≡ at.Fault → (r.read < 1048576) × Rose (shows feed.old).faults (shows feed.new).faults) }
     ensures limit { IfOk result (λ r. (r.end ≡ at.Limit) ↔ (r.read ≡ 1048576)) }
-    ensures later { faults feed.old ≤ faults feed.new }
-    ensures kept { IfOk result (λ r. r.end ≢ at.Fault → faults feed.new ≡ faults feed.old) }
-    ensures memory { (l : LayerView) → slice_get head.now.layers layer ≡ Some l → OnErr result ((gave more : List FeedItem) × Gave (left feed.old) (gave ++ more) (left feed.new) × (T.table into.new ≡ after_items l head.now.langs layer (T.table into.old) gave)) }
+    ensures later { (shows feed.old).faults ≤ (shows feed.new).faults }
+    ensures kept { IfOk result (λ r. r.end ≢ at.Fault → (shows feed.new).faults ≡ (shows feed.old).faults) }
+    ensures memory { (l : LayerView) → slice_get head.now.layers layer ≡ Some l → OnErr result ((gave more : List FeedItem) × Gave (shows feed.old).left (gave ++ more) (shows feed.new).left × (T.table into.new ≡ after_items l head.now.langs layer (T.table into.old) gave)) }
 {
     fill(
         alloc,

@@ -2,7 +2,7 @@
 
 ghost use Rattle.std.specs.Prelude.{◌≡◌, ◌≢◌, ◌≤◌, ℕ, List, Option, Some, Err, IfOk, OnErr};
 ghost use Rattle.geo_outside.specs.Device.{Rose};
-ghost use Rattle.feature_feed.specs.Feed.{Gives, given_after};
+ghost use Rattle.feature_feed.specs.Feed.{FeedView, Gives, given_after};
 ghost use Rattle.feature_feed.specs.declared.feed.FeedItem.{FeedItem};
 
 use feature_reader::raw::{RawRow, RawText};
@@ -27,24 +27,19 @@ pub enum FeedError {
 
 /// Where features come from, item by item.
 pub trait Feed: Drop {
-    /// The items that are left, in order; `None` where the feed can't tell them.
-    ghost left: { Self → Option (List FeedItem) };
-
-    /// How many items were given so far, up to 2^64 - 1, where the count stands still.
-    ghost given: { Self → ℕ };
-
-    /// How many pulls have failed so far, up to 2^64 - 1, where the count stands still.
-    ghost faults: { Self → ℕ };
+    /// What it shows: the items that are left, in order, or `None` where it can't tell them; how many items were given so far;
+    /// and how many pulls have failed so far. Both counts go up to 2^64 - 1, where they stand still.
+    ghost shows: { Self → FeedView };
 
     /// Gives the first of the items that are left, or `None` exactly where none is left. After an error no item was
     /// taken, and the feed may no longer tell its items. At `Failed` the count of faults has risen; every other answer
     /// leaves it.
     fn next(&mut self) -> Result<Option<FeedItem>, FeedError>
-        ensures taken { IfOk result (λ o. (items : List FeedItem) → left self.old ≡ Some items → Gives items o (left self.new)) }
-        ensures told { (items : List FeedItem) → left self.new ≡ Some items → (before : List FeedItem) × (left self.old ≡ Some before) }
-        ensures unchanged { OnErr result ((items : List FeedItem) → left self.new ≡ Some items → left self.old ≡ Some items) }
-        ensures count { given self.new ≡ given_after (given self.old) result }
-        ensures later { faults self.old ≤ faults self.new }
-        ensures kept { result ≢ Err FeedError.Failed → faults self.new ≡ faults self.old }
-        ensures cause { result ≡ Err FeedError.Failed → Rose (faults self.old) (faults self.new) };
+        ensures taken { IfOk result (λ o. (items : List FeedItem) → (shows self.old).left ≡ Some items → Gives items o (shows self.new).left) }
+        ensures told { (items : List FeedItem) → (shows self.new).left ≡ Some items → (before : List FeedItem) × ((shows self.old).left ≡ Some before) }
+        ensures unchanged { OnErr result ((items : List FeedItem) → (shows self.new).left ≡ Some items → (shows self.old).left ≡ Some items) }
+        ensures count { (shows self.new).given ≡ given_after (shows self.old).given result }
+        ensures later { (shows self.old).faults ≤ (shows self.new).faults }
+        ensures kept { result ≢ Err FeedError.Failed → (shows self.new).faults ≡ (shows self.old).faults }
+        ensures cause { result ≡ Err FeedError.Failed → Rose (shows self.old).faults (shows self.new).faults };
 }

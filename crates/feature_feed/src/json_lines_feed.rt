@@ -28,7 +28,8 @@ pub struct JsonLinesFeed<S: Source> {
 }
 
 impl<S: Source> Model for JsonLinesFeed<S> {
-    ghost use Rattle.feature_feed.specs.JsonLines.{FeedView, items_left};
+    ghost use Rattle.feature_feed.specs.Feed.{FeedView};
+    ghost use Rattle.feature_feed.specs.JsonLines.{items_left};
 
     ghost Value = { FeedView };
 
@@ -48,11 +49,7 @@ impl<S: Source + Drop> JsonLinesFeed<S> {
 }
 
 impl<S: Source + Drop> Feed for JsonLinesFeed<S> {
-    ghost left = { λ f. f.left };
-
-    ghost given = { λ f. f.given };
-
-    ghost faults = { λ f. f.faults };
+    ghost shows = { λ f. f };
 
     /// Gives the next line that isn't empty. After an error the items that are left are the same.
     fn next(&mut self) -> Result<Option<FeedItem>, FeedError>

@@ -35,12 +35,9 @@ impl MemoryFeed {
 
 impl Feed for MemoryFeed {
     ghost use Rattle.std.specs.Prelude.{Some};
+    ghost use Rattle.feature_feed.specs.Feed.{feed_view};
 
-    ghost left = { λ f. Some f.items.items };
-
-    ghost given = { λ f. f.given };
-
-    ghost faults = { λ f. f.faults };
+    ghost shows = { λ f. feed_view (Some f.items.items) f.given f.faults };
 
     /// Fails exactly where the number of the pull is in the list.
     fn next(&mut self) -> Result<Option<FeedItem>, FeedError> {

@@ -1,4 +1,4 @@
-use Rattle.std.proofs.Common.{◌≡◌, ◌∙◌, ◌+◌, ◌≤◌, [], ◌∷◌, ◌++◌, List, sym, ap, subst, append-nil, ◌<◌, arith, ℕ}
+use Rattle.std.proofs.Common.{◌≡◌, ◌∙◌, ◌+◌, ◌≤◌, [], ◌∷◌, ◌++◌, List, sym, ap, subst, append-nil, ◌<◌, arith}
 use Rattle.feature_feed.specs.Drain.{Gave, IsLoad}
 use Rattle.feature_reader.specs.declared.load_report.LoadReport.{LoadReport}
 use Rattle.feature_feed.specs.declared.feed.FeedItem.{FeedItem}
@@ -9,9 +9,9 @@ pub returns-in-Ok-None-clause-load : goal.returns-in-Ok-None-clause-load
 returns-in-Ok-None-clause-load g c =
     let gave = c.loop.invariant.filling.0 in
     let filling = c.loop.invariant.filling.1 in
-    let before = (goal.Feed-dyn g (c.args.feed.now.vtable, c.args.feed.now.value)).left c.args.feed.now.value in
-    let now = (goal.Feed-dyn g (c.loop.feed.vtable, c.loop.feed.value)).left c.loop.feed.value in
-    let after = (goal.Feed-dyn g (c.pull.new.feed.vtable, c.pull.new.feed.value)).left c.pull.new.feed.value in
+    let before = ((goal.Feed-dyn g (c.args.feed.now.vtable, c.args.feed.now.value)).shows c.args.feed.now.value).left in
+    let now = ((goal.Feed-dyn g (c.loop.feed.vtable, c.loop.feed.value)).shows c.loop.feed.value).left in
+    let after = ((goal.Feed-dyn g (c.pull.new.feed.vtable, c.pull.new.feed.value)).shows c.pull.new.feed.value).left in
     let load : IsLoad c.args.layer.now c.args.langs.now c.args.place (g.T.Taker.table c.args.into.now) (g.T.Taker.table c.loop.into) c.ended.result gave =
     subst (λ (r : LoadReport). IsLoad c.args.layer.now c.args.langs.now c.args.place (g.T.Taker.table c.args.into.now) (g.T.Taker.table c.loop.into) r gave) (sym c.ended.ensures)
     (record { read = filling.load.read; bad = filling.load.bad; full = filling.load.full; table = filling.load.table }) in
@@ -21,9 +21,9 @@ pub returns-in-Err-Memory-clause-memory : goal.returns-in-Err-Memory-clause-memo
 returns-in-Err-Memory-clause-memory g c =
     let gave = c.loop.invariant.filling.0 in
     let filling = c.loop.invariant.filling.1 in
-    let before = (goal.Feed-dyn g (c.args.feed.now.vtable, c.args.feed.now.value)).left c.args.feed.now.value in
-    let now = (goal.Feed-dyn g (c.loop.feed.vtable, c.loop.feed.value)).left c.loop.feed.value in
-    let after = (goal.Feed-dyn g (c.pull.new.feed.vtable, c.pull.new.feed.value)).left c.pull.new.feed.value in
+    let before = ((goal.Feed-dyn g (c.args.feed.now.vtable, c.args.feed.now.value)).shows c.args.feed.now.value).left in
+    let now = ((goal.Feed-dyn g (c.loop.feed.vtable, c.loop.feed.value)).shows c.loop.feed.value).left in
+    let after = ((goal.Feed-dyn g (c.pull.new.feed.vtable, c.pull.new.feed.value)).shows c.pull.new.feed.value).left in
     let same : Gave before gave after = gave_same before now after gave filling.tells filling.rest c.in-Err-Memory.ensures.unchanged in
     (gave, [], subst (λ (l : List FeedItem). Gave before l after) (sym (append-nil gave)) same, filling.load.table)
 
@@ -31,9 +31,9 @@ pub returns-in_default-clause-memory : goal.returns-in_default-clause-memory
 returns-in_default-clause-memory g c =
     let gave = c.loop.invariant.filling.0 in
     let filling = c.loop.invariant.filling.1 in
-    let before = (goal.Feed-dyn g (c.args.feed.now.vtable, c.args.feed.now.value)).left c.args.feed.now.value in
-    let now = (goal.Feed-dyn g (c.loop.feed.vtable, c.loop.feed.value)).left c.loop.feed.value in
-    let after = (goal.Feed-dyn g (c.pull.new.feed.vtable, c.pull.new.feed.value)).left c.pull.new.feed.value in
+    let before = ((goal.Feed-dyn g (c.args.feed.now.vtable, c.args.feed.now.value)).shows c.args.feed.now.value).left in
+    let now = ((goal.Feed-dyn g (c.loop.feed.vtable, c.loop.feed.value)).shows c.loop.feed.value).left in
+    let after = ((goal.Feed-dyn g (c.pull.new.feed.vtable, c.pull.new.feed.value)).shows c.pull.new.feed.value).left in
     let given : Gave before (gave ++ c.in-Ok-Some.item ∷ []) after = gave_one before now after gave c.in-Ok-Some.item filling.tells filling.rest (rw c.in-Ok-Some.field-0-is at c.in-Ok-Some.ensures.taken) c.pull.ensures.told in
     (gave, c.in-Ok-Some.item ∷ [], given, c.in_default.ensures.memory ∙ filling.load.table)
 
@@ -41,9 +41,9 @@ pub loop-preserved : goal.loop-preserved
 loop-preserved g c =
     let gave = c.loop.invariant.filling.0 in
     let filling = c.loop.invariant.filling.1 in
-    let before = (goal.Feed-dyn g (c.args.feed.now.vtable, c.args.feed.now.value)).left c.args.feed.now.value in
-    let now = (goal.Feed-dyn g (c.loop.feed.vtable, c.loop.feed.value)).left c.loop.feed.value in
-    let after = (goal.Feed-dyn g (c.pull.new.feed.vtable, c.pull.new.feed.value)).left c.pull.new.feed.value in
+    let before = ((goal.Feed-dyn g (c.args.feed.now.vtable, c.args.feed.now.value)).shows c.args.feed.now.value).left in
+    let now = ((goal.Feed-dyn g (c.loop.feed.vtable, c.loop.feed.value)).shows c.loop.feed.value).left in
+    let after = ((goal.Feed-dyn g (c.pull.new.feed.vtable, c.pull.new.feed.value)).shows c.pull.new.feed.value).left in
     let filled = filling_more c.args.layer.now c.args.langs.now c.args.place before (g.T.Taker.table c.args.into.now) c.loop.report gave now after (g.T.Taker.table c.loop.into) (g.T.Taker.table c.take_item-taken.new.into) c.in-Ok-Some.item c.in-Ok.outcome filling
     (rw c.in-Ok-Some.field-0-is at c.in-Ok-Some.ensures.taken) c.pull.ensures.told c.in-Ok.ensures.outcome c.in-Ok.ensures.table in
     record {
@@ -61,9 +61,9 @@ pub returns-in-Ok-None-clause-ended : goal.returns-in-Ok-None-clause-ended
 returns-in-Ok-None-clause-ended g c =
     let gave = c.loop.invariant.filling.0 in
     let filling = c.loop.invariant.filling.1 in
-    let before = (goal.Feed-dyn g (c.args.feed.now.vtable, c.args.feed.now.value)).left c.args.feed.now.value in
-    let now = (goal.Feed-dyn g (c.loop.feed.vtable, c.loop.feed.value)).left c.loop.feed.value in
-    let after = (goal.Feed-dyn g (c.pull.new.feed.vtable, c.pull.new.feed.value)).left c.pull.new.feed.value in
+    let before = ((goal.Feed-dyn g (c.args.feed.now.vtable, c.args.feed.now.value)).shows c.args.feed.now.value).left in
+    let now = ((goal.Feed-dyn g (c.loop.feed.vtable, c.loop.feed.value)).shows c.loop.feed.value).left in
+    let after = ((goal.Feed-dyn g (c.pull.new.feed.vtable, c.pull.new.feed.value)).shows c.pull.new.feed.value).left in
     let read : c.ended.result.read ≡ c.loop.report.read = ap (λ (r : LoadReport). r.read) c.ended.ensures in
     let within : c.ended.result.read < 1048576 = omega (arith, read, c.loop.invariant.read, c.loop-test.true) in
     λ end. (within, λ items is. read ∙ filling.load.read ∙ all_given before now after gave filling.tells (rw c.in-Ok-None.field-0-is at c.in-Ok-None.ensures.taken) items is)

@@ -10,9 +10,9 @@ invariant-loop g l =
     let before = (goal.Feed-dyn g (l.fn.feed.vtable, l.fn.feed.value)) in
     let now = (goal.Feed-dyn g (l.feed.vtable, l.feed.value)) in
     record {
-      filling : (gave : List FeedItem) × Filling (before.left l.fn.feed.value) l.layer l.langs l.place (g.T.Taker.table l.fn.into) l.report gave (now.left l.feed.value) (g.T.Taker.table l.into);
-      count : now.given l.feed.value < 18446744073709551615 → now.given l.feed.value ≡ before.given l.fn.feed.value + l.counter;
-      faults : now.faults l.feed.value ≡ before.faults l.fn.feed.value;
+      filling : (gave : List FeedItem) × Filling (before.shows l.fn.feed.value).left l.layer l.langs l.place (g.T.Taker.table l.fn.into) l.report gave (now.shows l.feed.value).left (g.T.Taker.table l.into);
+      count : (now.shows l.feed.value).given < 18446744073709551615 → (now.shows l.feed.value).given ≡ (before.shows l.fn.feed.value).given + l.counter;
+      faults : (now.shows l.feed.value).faults ≡ (before.shows l.fn.feed.value).faults;
       end : l.report.end ≡ at.Limit;
       layers : g.T.Taker.takes l.into ≡ g.T.Taker.takes l.fn.into;
       read : l.report.read ≡ l.counter;

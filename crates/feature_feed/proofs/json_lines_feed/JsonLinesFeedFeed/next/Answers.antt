@@ -1,5 +1,6 @@
 use Rattle.std.proofs.Common.{◌∙◌, ◌∷◌, sym, ap}
-use Rattle.feature_feed.specs.JsonLines.{FeedView, onto}
+use Rattle.feature_feed.specs.Feed.{FeedView}
+use Rattle.feature_feed.specs.JsonLines.{onto}
 use Rattle.feature_feed.specs.declared.feed.FeedItem.TheVariants.{Json}
 use Rattle.feature_feed.proofs.json_lines_feed.JsonLinesFeedFeed.next.Goals as goal
 
