@@ -2,7 +2,7 @@ pub mod Advance
 pub mod Bodies
 pub mod Fronts
 pub mod LoadFacts
-pub mod Numbered
+pub mod Named
 mod PutFacts
 mod Returns
 mod Rooms

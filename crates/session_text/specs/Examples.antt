@@ -1,14 +1,13 @@
 -- Sessions that serve as examples.
-use Rattle.std.specs.Prelude.{ℕ, true, false, List, [], ◌∷◌, length, codes, None}
+use Rattle.std.specs.Prelude.{ℕ, true, false, List, [], ◌∷◌, codes, None}
 use Rattle.geo_layer.specs.Layer.{LayerView}
 use Rattle.feature_reader.specs.Languages.{all_languages}
 use Rattle.feature_reader.specs.FeatureView.{FeatureView}
 use Rattle.geo_layer.specs.declared.head.Head.{Head}
-use Rattle.session_text.specs.Generations.{Generation}
 use Rattle.session_text.specs.Reading.{Reading, reading, at_end_line}
 use Rattle.session_text.specs.declared.session.Kind.TheVariants.{Asks}
 use Rattle.session_text.specs.declared.body.BodyLine.{BodyLine}
-use Rattle.session_text.specs.declared.body.BodyLine.TheVariants.{Put, Drop, Limit, Publish, Ask}
+use Rattle.session_text.specs.declared.body.BodyLine.TheVariants.{Put, Publish, Ask}
 
 -- a layer of places with one city, which is asked for by its name and by a part of it
 abbrev pub city : List ℕ
@@ -37,14 +36,6 @@ city_without_end = codes "carmen 1\nlayer {\"name\":\"place\",\"zoom\":6}\nput 0
 -- a head with that layer and no languages
 abbrev pub one_layer : Head
 one_layer = record { langs = []; layers = place ∷ [] }
-
--- the city is put and published; the limit is set, the city dropped, and a generation published again
-abbrev pub city_published_and_dropped : List BodyLine
-city_published_and_dropped = Put 0 new_york ∷ Publish ∷ Limit 5 ∷ Drop 0 7 ∷ Publish ∷ Drop 0 7 ∷ []
-
--- the number of a generation, its limit, and how many features it has
-abbrev pub in_short : Generation → ℕ × ℕ × ℕ
-in_short g = (g.number, g.limit, length g.table)
 
 -- a comment, an empty line, and a drop in a layer that isn't there
 abbrev pub bad_drop : List ℕ

@@ -1,7 +1,6 @@
 pub mod Lines
 pub mod Session
 pub mod Reading
-pub mod Generations
 pub mod Reply
 pub mod Status
 pub mod Examples

@@ -1,9 +1,9 @@
 -- What the bytes of a source give: the head of a session, its closed rounds, and how it ends.
-use Rattle.std.specs.Prelude.{◌≡◌, ℕ, ◌+◌, ⊤, Bool, false, List, [], ◌∷◌, ◌++◌, ◌&&◌, ◌||◌, ◌==◌, nat_lt, length, codes, bytes_eq, if◌then◌else◌, Result, Ok, Err}
+use Rattle.std.specs.Prelude.{◌≡◌, ℕ, ◌+◌, ⊤, Bool, false, List, [], ◌∷◌, ◌++◌, ◌&&◌, ◌||◌, ◌==◌, nat_lt, length, codes, bytes_eq, flat_map, if◌then◌else◌, Result, Ok, Err}
 use Rattle.std.specs.List.{slice_split}
 use Rattle.geo_layer.specs.declared.head.Head.{Head}
 use Rattle.session_text.specs.Lines.{longest, line_text}
-use Rattle.session_text.specs.Session.{SessionView, start, line_at, after_item, step_of}
+use Rattle.session_text.specs.Session.{SessionView, start, line_at, after_item, step_of, named_by}
 use Rattle.session_text.specs.declared.body.BodyLine.{BodyLine}
 use Rattle.session_text.specs.declared.item.Item.{Item}
 use Rattle.session_text.specs.declared.session.Kind.{Kind}
@@ -77,3 +77,14 @@ reading_on session n begun ended more = reading_from session n (lines_of ended (
 -- the reading of these bytes; ended: the source was found at its end
 abbrev pub reading : ℕ → Kind → Bool → List ℕ → Reading
 reading feeds kind ended bytes = reading_on (start feeds kind) 1 [] ended bytes
+
+-- ---- the lines that were read
+
+-- the lines of these rounds, one after another
+abbrev pub lines_of_rounds : List (List BodyLine) → List BodyLine
+lines_of_rounds [] = []
+lines_of_rounds (round ∷ rounds) = round ++ lines_of_rounds rounds
+
+-- the feeds that these lines name, in order
+abbrev pub feeds_named : List BodyLine → List ℕ
+feeds_named lines = flat_map named_by lines

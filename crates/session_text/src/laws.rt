@@ -1,15 +1,14 @@
 //! Laws of the definitions, as the contracts of functions that do nothing.
 
-ghost use Rattle.std.specs.Prelude.{◌≡◌, ℕ, List, [], ◌∷◌, ◌++◌, Bool, map, slice_get, codes, Some, Ok};
-ghost use Rattle.geo_layer.specs.declared.head.Head.{Head};
-ghost use Rattle.session_text.specs.Generations.{Generation, generation_0, new_builder, builder_after, all_generations, publications};
+ghost use Rattle.std.specs.Prelude.{◌≡◌, ◌≢◌, ◌<◌, ℕ, List, [], Bool, codes, All, AllPairs, Ok};
 ghost use Rattle.session_text.specs.declared.body.BodyLine.{BodyLine};
-ghost use Rattle.session_text.specs.Reading.{at_bad_line, unended, reading_on};
+ghost use Rattle.session_text.specs.Reading.{at_bad_line, unended, reading, reading_on, lines_of_rounds, feeds_named};
 ghost use Rattle.session_text.specs.Session.{SessionView, line_at, IsLineOf};
 ghost use Rattle.session_text.specs.declared.item.Item.TheVariants.{Body};
+ghost use Rattle.session_text.specs.declared.session.Kind.{Kind};
 ghost use Rattle.session_text.specs.declared.session.Stage.TheVariants as at;
 ghost use Rattle.session_text.specs.declared.why.Why.TheVariants as why;
-ghost use Rattle.session_text.specs.Examples.{city, one_layer, city_published_and_dropped, in_short, city_body, city_without_feed, city_without_end, bad_drop, read_whole, read_open, ended_with};
+ghost use Rattle.session_text.specs.Examples.{city, city_body, city_without_feed, city_without_end, bad_drop, read_whole, read_open, ended_with};
 
 /// What some worked sessions give: the rounds and the ending, the first fault of a line, and whether a rest without a line
 /// feed is the `end` line.
@@ -23,26 +22,15 @@ pub fn worked_readings()
     ensures number { (read_whole bad_drop).ending ≡ at_bad_line 5 why.Number }
 {}
 
-/// Entry k of a session's generations has the number k; generation 0 is the first, with no features.
-pub fn generations_are_numbered()
-    ensures number { (head : Head) → (lines : List BodyLine) → (k : ℕ) → (g : Generation) → slice_get (all_generations head lines) k ≡ Some g → g.number ≡ k }
-    ensures first { (head : Head) → all_generations head [] ≡ generation_0 head ∷ [] }
-{}
-
-/// The generation that stands published behind some lines, which answers an ask there, is the entry of the list of all
-/// generations whose place is the number of publications among them.
-pub fn asks_see_the_last_publication()
-    ensures { (head : Head) → (before later : List BodyLine) → slice_get (all_generations head (before ++ later)) (publications before) ≡ Some (builder_after (new_builder head) before).last }
-{}
-
-/// The generations of some lines, by hand: a publication has the features and the limit of the lines before it.
-pub fn worked_generations()
-    ensures { map in_short (all_generations one_layer city_published_and_dropped) ≡ (0, 2000000, 0) ∷ (1, 2000000, 1) ∷ (2, 5, 0) ∷ [] }
-{}
-
-/// Each line of the body that is taken keeps what its head asks for.
+/// Each line of the body that is taken keeps what its head asks for, and the number of feeds.
 pub fn body_lines_fit_the_head()
-    ensures { (session : SessionView) → (line : List ℕ) → (said : BodyLine) → line_at session line ≡ Ok (Body said) → IsLineOf session.head said }
+    ensures { (session : SessionView) → (line : List ℕ) → (said : BodyLine) → line_at session line ≡ Ok (Body said) → IsLineOf session.feeds session.head said }
+{}
+
+/// The lines of a session's closed rounds name no feed twice, and none that wasn't handed in.
+pub fn feeds_are_named_once()
+    ensures once { (feeds : ℕ) → (kind : Kind) → (ended : Bool) → (bytes : List ℕ) → AllPairs (λ a b. a ≢ b) (feeds_named (lines_of_rounds (reading feeds kind ended bytes).rounds)) }
+    ensures lent { (feeds : ℕ) → (kind : Kind) → (ended : Bool) → (bytes : List ℕ) → All (λ n. n < feeds) (feeds_named (lines_of_rounds (reading feeds kind ended bytes).rounds)) }
 {}
 
 /// From the body on the head stays.
