@@ -34,13 +34,17 @@ there_too : (o p : Option LayerView) (P : LayerView → Type 0) → ((x : LayerV
 there_too None p P same has = absurd (cc has.0)
 there_too (Some x) p P same has = subst (λ (q : Option LayerView). IsSome q × IfSome q P) (sym (same x refl)) has
 
-line_too : (head more : Head) → HasLayersOf more head → (line : BodyLine) → IsLineOf head line → IsLineOf more line
-line_too head more has (Put layer f) is = there_too (slice_get head.layers layer) (slice_get more.layers layer) (λ l. All (λ t. t.z ≡ l.zoom) f.tiles) (has layer) is
-line_too head more has (Drop layer id) is = tt
-line_too head more has (Load feed layer) is = tt
-line_too head more has (Limit n) is = tt
-line_too head more has Publish is = tt
-line_too head more has (Ask lane text) is = is
+some_too : (o p : Option LayerView) → ((x : LayerView) → o ≡ Some x → p ≡ Some x) → IsSome o → IsSome p
+some_too None p same has = absurd (cc has)
+some_too (Some x) p same has = subst IsSome (sym (same x refl)) has
+
+line_too : (feeds : ℕ) (head more : Head) → HasLayersOf more head → (line : BodyLine) → IsLineOf feeds head line → IsLineOf feeds more line
+line_too feeds head more has (Put layer f) is = there_too (slice_get head.layers layer) (slice_get more.layers layer) (λ l. All (λ t. t.z ≡ l.zoom) f.tiles) (has layer) is
+line_too feeds head more has (Drop layer id) is = tt
+line_too feeds head more has (Load feed layer) is = (is.0, some_too (slice_get head.layers layer) (slice_get more.layers layer) (has layer) is.1)
+line_too feeds head more has (Limit n) is = tt
+line_too feeds head more has Publish is = tt
+line_too feeds head more has (Ask lane text) is = is
 
 table_too : (head more : Head) → HasLayersOf more head → (table : Table) → IsOfHead head table → IsOfHead more table
 table_too head more has table is =
@@ -52,8 +56,8 @@ table_too head more has table is =
 -- ---- what stands, with more
 
 -- behind one line more
-pub later : (head : Head) (n : ℕ) (left : List BodyLine) (s : Standing) → IsReady head n left s → IsReady head (n + 1) left s
-later head n left s r = record {
+pub later : (feeds : ℕ) (head : Head) (n : ℕ) (left : List BodyLine) (s : Standing) → IsReady feeds head n left s → IsReady feeds head (n + 1) left s
+later feeds head n left s r = record {
   lines = r.lines;
   table = r.table;
   published = r.published;
@@ -63,9 +67,9 @@ later head n left s r = record {
 }
 
 -- in a head that has more layers
-of_more : (head more : Head) → HasLayersOf more head → (n : ℕ) (left : List BodyLine) (s : Standing) → IsReady head n left s → IsReady more n left s
-of_more head more has n left s r = record {
-  lines = All-weaker (IsLineOf head) (IsLineOf more) (line_too head more has) left r.lines;
+of_more : (feeds : ℕ) (head more : Head) → HasLayersOf more head → (n : ℕ) (left : List BodyLine) (s : Standing) → IsReady feeds head n left s → IsReady feeds more n left s
+of_more feeds head more has n left s r = record {
+  lines = All-weaker (IsLineOf feeds head) (IsLineOf feeds more) (line_too feeds head more has) left r.lines;
   table = table_too head more has s.table r.table;
   published = table_too head more has s.published r.published;
   number = r.number;
@@ -74,11 +78,11 @@ of_more head more has n left s r = record {
 }
 
 -- with one line more
-with_line : (head : Head) (n : ℕ) (left : List BodyLine) (line : BodyLine) (s : Standing) → IsLineOf head line → IsReady head n left s → IsReady head (n + 1) (left ++ line ∷ []) s
-with_line head n left line s is r =
+with_line : (feeds : ℕ) (head : Head) (n : ℕ) (left : List BodyLine) (line : BodyLine) (s : Standing) → IsLineOf feeds head line → IsReady feeds head n left s → IsReady feeds head (n + 1) (left ++ line ∷ []) s
+with_line feeds head n left line s is r =
     let one : length (left ++ line ∷ []) ≡ length left + 1 = omega (arith, length-append left (line ∷ [])) in
     record {
-      lines = All-push (IsLineOf head) left line r.lines is;
+      lines = All-push (IsLineOf feeds head) left line r.lines is;
       table = r.table;
       published = r.published;
       number = omega (arith, r.number, one);
@@ -89,17 +93,17 @@ with_line head n left line s is r =
 -- ---- a line that is taken and closes no round
 
 -- what stands fits the session behind it
-pub ready_after : (s : SessionView) (n : ℕ) (line : List ℕ) (item : Item) (st : Standing) → line_at s line ≡ Ok item → step_of s.round item ≡ More → IsReady s.head n s.round st
-    → IsReady (after_item s item).head (n + 1) (after_item s item).round st
-ready_after s n line Skipped st is does r = later s.head n s.round st r
-ready_after s n line Title st is does r = later s.head n s.round st r
+pub ready_after : (s : SessionView) (n : ℕ) (line : List ℕ) (item : Item) (st : Standing) → line_at s line ≡ Ok item → step_of s.round item ≡ More → IsReady s.feeds s.head n s.round st
+    → IsReady s.feeds (after_item s item).head (n + 1) (after_item s item).round st
+ready_after s n line Skipped st is does r = later s.feeds s.head n s.round st r
+ready_after s n line Title st is does r = later s.feeds s.head n s.round st r
 ready_after s n line (Langs codes) st is does r =
     let after = after_item s (Langs codes) in
-    later after.head n s.round st (of_more s.head after.head (λ k layer e. e) n s.round st r)
+    later s.feeds after.head n s.round st (of_more s.feeds s.head after.head (λ k layer e. e) n s.round st r)
 ready_after s n line (Layer layer) st is does r =
     let after = after_item s (Layer layer) in
-    later after.head n s.round st (of_more s.head after.head (λ k x e. longer s.head.layers (layer ∷ []) k x e) n s.round st r)
-ready_after s n line (Body said) st is does r = with_line s.head n s.round said st (fits_head s line said is) r
+    later s.feeds after.head n s.round st (of_more s.feeds s.head after.head (λ k x e. longer s.head.layers (layer ∷ []) k x e) n s.round st r)
+ready_after s n line (Body said) st is does r = with_line s.feeds s.head n s.round said st (fits_head s line said is) r
 ready_after s n line Join st is does r = absurd (cc does)
 ready_after s n line End st is does r = absurd (cc does)
 

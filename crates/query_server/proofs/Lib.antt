@@ -1,9 +1,15 @@
+mod Drained
+mod Fed
+mod FedBy
 mod FirstFeed
 mod Kept
+mod Lines
 mod Moves
+mod Numbered
 mod OneText
 mod Outcome
 mod Pieces
+mod Pulled
 mod Refused
 mod Steps
 mod Texts

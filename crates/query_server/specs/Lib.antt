@@ -1,4 +1,6 @@
+pub mod Generations
 pub mod Plain
 pub mod Promise
+pub mod Examples
 -- for private contracts alone
 pub mod Running

@@ -48,14 +48,14 @@ pub fn next_line(bytes: &[u8]) -> Option<(&[u8], &[u8])>
 }
 
 impl LineReader {
-    /// A source before its first byte.
-    pub fn new(alloc: Global, kind: Kind) -> LineReader
-        ensures session { result.session ≡ start 0 kind }
+    /// A source before its first byte, in a session to which so many feeds are lent.
+    pub fn new(alloc: Global, feeds: u32, kind: Kind) -> LineReader
+        ensures session { result.session ≡ start feeds kind }
         ensures line { result.line ≡ 1 }
         ensures begun { result.begun.items ≡ [] }
     {
         LineReader {
-            session: Session::new(alloc, 0, kind),
+            session: Session::new(alloc, feeds, kind),
             line: 1,
             begun: Vec::new(alloc),
         }

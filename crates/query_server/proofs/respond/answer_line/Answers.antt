@@ -1,13 +1,35 @@
-use Rattle.std.proofs.Common.{◌<◌, length, subst, arith}
-use Rattle.std.proofs.lemmas.List.Elements.{All-head}
-use Rattle.session_text.specs.Session.{IsLineOf}
-use Rattle.session_text.specs.declared.body.BodyLine.TheVariants as body
+use Rattle.std.proofs.Common.{◌<◌, length, refl, arith}
 use Rattle.query_server.proofs.Steps.{layer_below}
+use Rattle.query_server.proofs.Lines.{answered_alone, answered_load, line_fits}
 use Rattle.query_server.proofs.respond.answer_line.Goals as goal
 
 pub put-requires : goal.put-requires
-put-requires c =
+put-requires g c =
     let (bound, left, small, few, ready) = c.requires in
-    let fits : IsLineOf c.args.head.now (body.Put c.in-Put.layer c.in-Put.feature) = subst (IsLineOf c.args.head.now) c.in-Put.is (All-head (IsLineOf c.args.head.now) c.args.line left ready.lines) in
+    let fits = line_fits _ _ _ _ _ _ _ c.in-Put.is ready in
     let below : c.in-Put.layer < length c.args.head.now.layers = layer_below c.args.head.now.layers c.in-Put.layer fits.0 in
     omega (arith, below, few)
+
+pub load-requires-clause-layer : goal.load-requires-clause-layer
+load-requires-clause-layer g c =
+    let (bound, left, small, few, ready) = c.requires in
+    let fits = line_fits _ _ _ _ _ _ _ c.in-Load.is ready in
+    layer_below c.args.head.now.layers c.in-Load.layer fits.1
+
+pub returns-in-Put-clause-answered : goal.returns-in-Put-clause-answered
+returns-in-Put-clause-answered g c = answered_alone c.put.result _ _ _ _ _ _ _ _ c.in-Put.is refl (λ loads. c.put.ensures loads c.args.head.now)
+
+pub returns-in-Drop-clause-answered : goal.returns-in-Drop-clause-answered
+returns-in-Drop-clause-answered g c = answered_alone c.drop_feature.result _ _ _ _ _ _ _ _ c.in-Drop.is refl (λ loads. c.drop_feature.ensures loads c.args.head.now)
+
+pub returns-in-Load-clause-answered : goal.returns-in-Load-clause-answered
+returns-in-Load-clause-answered g c = answered_load c.load.result _ _ _ _ _ _ _ _ _ _ c.in-Load.is c.load.ensures.loaded
+
+pub returns-in-Limit-clause-answered : goal.returns-in-Limit-clause-answered
+returns-in-Limit-clause-answered g c = answered_alone c.set_limit.result _ _ _ _ _ _ _ _ c.in-Limit.is refl (λ loads. c.set_limit.ensures loads c.args.head.now)
+
+pub returns-in-Publish-clause-answered : goal.returns-in-Publish-clause-answered
+returns-in-Publish-clause-answered g c = answered_alone c.publish.result _ _ _ _ _ _ _ _ c.in-Publish.is refl (λ loads. c.publish.ensures loads c.args.head.now)
+
+pub returns-in-Ask-clause-answered : goal.returns-in-Ask-clause-answered
+returns-in-Ask-clause-answered g c = answered_alone c.ask.result _ _ _ _ _ _ _ _ c.in-Ask.is refl c.ask.ensures

@@ -1,7 +1,11 @@
+use Rattle.std.proofs.Common.{◌≡◌, length, map}
 use Rattle.std.specs.Vec.Iter.{into_iter_items}
 use Rattle.query_server.proofs.Steps.{IsAlong}
 use Rattle.query_server.proofs.respond.answer_round.Given as goal
 
 -- the lines that are left go on from what was written
 abbrev pub invariant-loop-line : goal.invariant-loop-line
-invariant-loop-line l = IsAlong l.head l.fn.round (into_iter_items l.line-iterator) l.fn.standing l.standing l.out.items
+invariant-loop-line g l = record {
+  along : IsAlong l.head l.fn.round (into_iter_items l.line-iterator) l.fn.standing l.standing l.out.items (map (λ b. (goal.Feed-dyn g (b.vtable, b.value)).shows b.value) l.fn.feeds.items) (map (λ b. (goal.Feed-dyn g (b.vtable, b.value)).shows b.value) l.feeds.items);
+  count : length l.feeds.items ≡ length l.fn.feeds.items;
+}
