@@ -1,1 +1,2 @@
+mod FeedFiles
 mod Runs

@@ -1,7 +1,8 @@
 -- What a run of the program does: it tells of itself, or calls `carmen`; and how it ends.
-use Rattle.std.specs.Prelude.{◌≡◌, ◌≢◌, ◌↔◌, ◌≤◌, ℕ, true, false, List, [], ◌∷◌, ◌++◌, ◌||◌, codes, bytes_eq, if◌then◌else◌, Option, Some, None}
+use Rattle.std.specs.Prelude.{◌≡◌, ◌≢◌, ◌↔◌, ◌≤◌, ℕ, true, false, List, [], ◌∷◌, ◌++◌, ◌||◌, length, codes, decimal, bytes_eq, if◌then◌else◌, Option, Some, None}
 use Rattle.std.specs.Io.KnownBytes.{Keeps, Appends}
 use Rattle.geo_outside.specs.Device.{Rose}
+use Rattle.feature_feed.specs.Feed.{FeedView}
 use Rattle.session_text.specs.Status.{status_text}
 use Rattle.session_text.specs.declared.session.Kind.TheVariants.{Asks}
 use Rattle.session_text.specs.declared.status.Status.{Status}
@@ -41,22 +42,30 @@ abbrev pub told_of : Status → List ℕ
 told_of Done = []
 told_of status = status_text status ++ codes "\n"
 
--- what `carmen` promises of the status that it answers to these words; left, contents: the bytes that its source has left and that its sink has, before and after; reads, writes: how many reads and writes have failed
-pub record IsAnsweredAs (words : List (List ℕ)) (left left_after contents contents_after : Option (List ℕ)) (reads reads_after writes writes_after : ℕ) (status : Status) : Type 0 where
-  pub session : EndsAs byte_limit Asks left left_after contents contents_after status
+-- what is told where the file of the feed of this number, counted from 0, can't be opened
+abbrev pub unopened_text : ℕ → List ℕ
+unopened_text n = codes "carmen: feed " ++ decimal n ++ codes " cannot be opened\n"
+
+-- the exit status of a run that can't open a file of a feed
+abbrev pub unopened_exit : ℕ
+unopened_exit = 9
+
+-- what `carmen` promises of the status that it answers to these words; left, contents: the bytes that its source has left and that its sink has, before and after; feeds: what its feeds show; reads, writes: how many reads and writes have failed
+pub record IsAnsweredAs (words : List (List ℕ)) (left left_after contents contents_after : Option (List ℕ)) (feeds feeds_after : List FeedView) (reads reads_after writes writes_after : ℕ) (status : Status) : Type 0 where
+  pub session : EndsAs byte_limit Asks left left_after contents contents_after feeds feeds_after status
   pub usage : (status ≡ Usage) ↔ (asks_for_plain words ≡ false)
-  pub untouched : status ≡ Usage → Keeps left left_after × Keeps contents contents_after × (reads_after ≡ reads) × (writes_after ≡ writes)
+  pub untouched : status ≡ Usage → Keeps left left_after × Keeps contents contents_after × (reads_after ≡ reads) × (writes_after ≡ writes) × (feeds_after ≡ feeds)
   pub read_fault : status ≡ ReadFault → Rose reads reads_after
   pub write_fault : status ≡ WriteFault → Rose writes writes_after
-  pub decided : asks_for_plain words ≡ true → ¬ (Rose reads reads_after) → ¬ (Rose writes writes_after) → IsDecided byte_limit Asks left status
+  pub decided : asks_for_plain words ≡ true → ¬ (Rose reads reads_after) → ¬ (Rose writes writes_after) → IsDecided byte_limit Asks (length feeds) left status
   pub later : (reads ≤ reads_after) × (writes ≤ writes_after)
   pub kept : (status ≢ ReadFault → reads_after ≡ reads) × (status ≢ WriteFault → writes_after ≡ writes)
 
--- what a run with these words does, by the status that it ends with: it tells of itself and reads nothing, or it answers one session
-abbrev pub IsRunAs : List (List ℕ) → Option (List ℕ) → Option (List ℕ) → Option (List ℕ) → Option (List ℕ) → ℕ → ℕ → ℕ → ℕ → Status → Type 0
-IsRunAs words left left_after contents contents_after reads reads_after writes writes_after status = elim (about_of words) [
-  | None ↦ IsAnsweredAs words left left_after contents contents_after reads reads_after writes writes_after status
-  | Some about ↦ Keeps left left_after × (reads_after ≡ reads) × IsTold (about_text about) contents contents_after writes writes_after status
+-- what a run with these words does, by the status that it ends with: it tells of itself, reads nothing and pulls no feed, or it answers one session
+abbrev pub IsRunAs : List (List ℕ) → Option (List ℕ) → Option (List ℕ) → Option (List ℕ) → Option (List ℕ) → List FeedView → List FeedView → ℕ → ℕ → ℕ → ℕ → Status → Type 0
+IsRunAs words left left_after contents contents_after feeds feeds_after reads reads_after writes writes_after status = elim (about_of words) [
+  | None ↦ IsAnsweredAs words left left_after contents contents_after feeds feeds_after reads reads_after writes writes_after status
+  | Some about ↦ Keeps left left_after × (reads_after ≡ reads) × (feeds_after ≡ feeds) × IsTold (about_text about) contents contents_after writes writes_after status
 ]
 
 -- a text was written, or a front of it, where the sink failed or memory was wanting

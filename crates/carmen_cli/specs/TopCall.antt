@@ -1,8 +1,39 @@
 -- What the words of the command line ask for.
-use Rattle.std.specs.Prelude.{ℕ, Bool, false, List, [], ◌∷◌, codes, bytes_eq}
+use Rattle.std.specs.Prelude.{ℕ, Bool, false, List, [], ◌∷◌, ◌&&◌, nat_le, nat_eq, length, drop, codes, bytes_eq, if◌then◌else◌, Option, Some, None, is_some}
+use Rattle.std.specs.List.{starts_with, list_all, filter_map}
+use Rattle.carmen_cli.specs.declared.words.FeedFormat.{FeedFormat}
+use Rattle.carmen_cli.specs.declared.words.FeedFormat.TheVariants.{Json, Csv}
 
--- the words are the one word `plain`
+-- a file that is to be lent as a feed
+pub record FileView : Type 0 where
+  pub format : FeedFormat
+  pub path : List ℕ
+
+-- the file of this format at a path; none where the path is empty
+abbrev pub file_at : FeedFormat → List ℕ → Option FileView
+file_at format [] = None
+file_at format (b ∷ bs) = Some (record { format = format; path = b ∷ bs })
+
+-- the file that a word names: `json:` or `csv:`, and its path
+abbrev pub feed_word : List ℕ → Option FileView
+feed_word word =
+    if starts_with nat_eq word (codes "json:") then file_at Json (drop 5 word)
+    else if starts_with nat_eq word (codes "csv:") then file_at Csv (drop 4 word)
+    else None
+
+-- the word names a file
+abbrev pub is_feed_word : List ℕ → Bool
+is_feed_word word = is_some (feed_word word)
+
+-- the most feeds
+abbrev pub most_feeds : ℕ
+most_feeds = 16
+
+-- the words are `plain` and at most 16 words behind it, each of which names a file
 abbrev pub asks_for_plain : List (List ℕ) → Bool
 asks_for_plain [] = false
-asks_for_plain (word ∷ []) = bytes_eq word (codes "plain")
-asks_for_plain (word ∷ second ∷ more) = false
+asks_for_plain (word ∷ feeds) = bytes_eq word (codes "plain") && nat_le (length feeds) most_feeds && list_all is_feed_word feeds
+
+-- the files of the feeds, in order: those that the words behind `plain` name, each of them one; none where the words are refused
+abbrev pub files_of : List (List ℕ) → List FileView
+files_of words = if asks_for_plain words then filter_map feed_word (drop 1 words) else []

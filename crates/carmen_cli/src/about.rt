@@ -8,16 +8,29 @@ pub const HELP: &str = "\
 carmen: a forward geocoder over layers of places
 
 usage:
-  carmen plain          read a session on standard input, and answer it on standard output
+  carmen plain [FEED..] read a session on standard input, and answer it on standard output
   carmen --help, -h     say this
   carmen --version, -V  say the version
 
-docs/FORMAT.md has the lines of a session, their faults and what they are answered with.
+A FEED is a file of places, which a line `load F L` of the session puts into layer L. The first
+one is feed 0; there may be 16. All are opened before the session is read.
+  json:PATH             a GeoJSON feature on each line
+  csv:PATH              rows of the fields id,text,zxy,score
 
-example:
+docs/FORMAT.md has the lines of a session, their faults and what they are answered with, and
+the form of the feeds.
+
+examples:
   $ printf 'carmen 1\\nlayer {\"name\":\"place\",\"zoom\":6}\\npublish\\nask 0 york\\nend\\n' | carmen plain
   published 1
   ask 0 0 gen 1 found 0
+  $ printf '1,York,6/31/20,\\n' >york.csv
+  $ printf 'carmen 1\\nlayer {\"name\":\"place\",\"zoom\":6}\\nload 0 0\\npublish\\nask 0 york\\nend\\n' >york
+  $ carmen plain csv:york.csv <york
+  load 0 0 read 1 bad 0 full 0 end
+  published 1
+  ask 0 0 gen 1 found 1
+  context 10000/10000 score 0 0:1@6/31/20[0,1)=10000
 
 exit status, told on standard error where it isn't 0:
   0  the session was read to its end, and all of it is answered
@@ -28,6 +41,7 @@ exit status, told on standard error where it isn't 0:
   5  reading standard input failed
   6  writing to standard output failed
   7  out of memory
+  9  the file of a feed can't be opened; nothing is read
 ";
 
 /// What is answered to `--version`.

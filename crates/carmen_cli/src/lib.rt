@@ -4,3 +4,4 @@
 pub mod about;
 pub mod program;
 pub mod top;
+pub mod words;

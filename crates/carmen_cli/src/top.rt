@@ -1,31 +1,34 @@
-//! The top call: the words of a command line, a source and a sink.
+//! The top call: the words of a command line, a source, a sink and feeds.
 
-ghost use Rattle.std.specs.Prelude.{◌≡◌, ◌≢◌, ◌↔◌, ◌≤◌, map, string_bytes, true, false};
+ghost use Rattle.std.specs.Prelude.{◌≡◌, ◌≢◌, ◌↔◌, ◌≤◌, length, map, string_bytes, true, false};
 ghost use Rattle.std.specs.Io.KnownBytes.{Keeps};
 ghost use Rattle.geo_outside.specs.Device.{Rose};
 ghost use Rattle.query_server.specs.Promise.{byte_limit, EndsAs, IsDecided};
 ghost use Rattle.session_text.specs.declared.session.Kind.TheVariants.{Asks};
 ghost use Rattle.carmen_cli.specs.TopCall.{asks_for_plain};
 
+use crate::words::is_plain;
+use feature_feed::feed::Feed;
 use geo_outside::device::{Sink, Source};
 use query_server::run::run_plain;
 use session_text::session::Kind;
 use session_text::status::Status;
 
-/// The words are the one word `plain`.
-fn is_plain(words: &[String]) -> bool
-    ensures { result ≡ asks_for_plain (map string_bytes words.now) }
-{
-    words.len() == 1 && words[0].as_str() == "plain"
-}
-
-/// Reads a session from the source, answers it and writes the answers to the sink, where the words are `plain`. It goes
-/// round by round: a round is answered once its `join` or `end` line was taken, and its text is written before more is
-/// read; nothing is read behind the `end` line but what came with its block. Nothing taken is given back, and nothing
-/// written is undone. What is said of bytes holds where the source and the sink tell theirs.
+/// Reads a session from the source, answers it and writes the answers to the sink, where the words are `plain` and at most
+/// 16 feed words, `json:PATH` or `csv:PATH`. It goes round by round: a round is answered once its `join` or `end` line was
+/// taken, and its text is written before more is read; nothing is read behind the `end` line but what came with its block.
+/// Nothing taken is given back, and nothing written is undone. What is said of bytes and of items holds where the source, the
+/// sink and the feeds tell theirs.
+///
+/// A `load` line names a feed by its number, counted from 0 in the order of `feeds`, of which there are fewer than 2^32. What
+/// counts is how many feeds are lent; that they are those of the words is the caller's. The feed is pulled when the line's
+/// round is answered, once, for at most 1,048,576 items; then no line names it again. A feed that no line of a closed round
+/// names is as before, so where a round stays open, the feeds of its lines aren't pulled. A feed that fails ends its load
+/// with `fault`, and the session goes on; a feed that wants memory ends the call.
 ///
 /// - `Done`: the `end` line was read; what was written is a text of all rounds.
-/// - `Usage`: the words aren't the one word `plain`. Nothing was taken and nothing written, and no call has failed.
+/// - `Usage`: the words aren't `plain` and at most 16 feed words. Nothing was taken and nothing written, no call has failed,
+///   and the feeds are as before.
 /// - `BadLine`: this line is the first that is refused, for this reason; what was written is a text of the closed rounds.
 /// - `Unended`: the source has nothing left, and no line is refused or `end`; likewise.
 /// - `TooMuch`: 268,435,456 bytes were taken, and no line of them is refused or `end`; likewise.
@@ -36,27 +39,32 @@ fn is_plain(words: &[String]) -> bool
 /// - `Memory`: room was asked for and refused, which no clause says; a front of such a text was written.
 ///
 /// No fault is passed over: any other status than `ReadFault` leaves the source's count of faults, and any other than
-/// `WriteFault` the sink's. Where neither count of faults rose, the words and the bytes of the source alone decide the status, but for `Memory`.
+/// `WriteFault` the sink's. Where neither count of faults rose, the words, the bytes of the source and the number of feeds
+/// alone decide the status, but for `Memory`: what the feeds give or how they fail decides no status.
 pub fn carmen<R: AllocGlobal, S: Source, K: Sink>(
     rt: &R,
     words: &[String],
     source: &mut S,
     sink: &mut K,
+    feeds: &mut Vec<Box<dyn Feed>>,
 ) -> Status
-    ensures session { EndsAs byte_limit Asks (S.left source.old) (S.left source.new) (K.contents sink.old) (K.contents sink.new) result }
+    requires feeds { length feeds.old.items ≤ 4294967295 }
+    ensures session { EndsAs byte_limit Asks (S.left source.old) (S.left source.new) (K.contents sink.old) (K.contents sink.new)
+        (map (λ b. shows b) feeds.old.items) (map (λ b. shows b) feeds.new.items) result }
     ensures usage { (result ≡ Status.Usage) ↔ (asks_for_plain (map string_bytes words.now) ≡ false) }
     ensures untouched { result ≡ Status.Usage → Keeps (S.left source.old) (S.left source.new) × Keeps (K.contents sink.old) (K.contents sink.new)
-        × (S.faults source.new ≡ S.faults source.old) × (K.faults sink.new ≡ K.faults sink.old) }
+        × (S.faults source.new ≡ S.faults source.old) × (K.faults sink.new ≡ K.faults sink.old)
+        × (map (λ b. shows b) feeds.new.items ≡ map (λ b. shows b) feeds.old.items) }
     ensures read_fault { result ≡ Status.ReadFault → Rose (S.faults source.old) (S.faults source.new) }
     ensures write_fault { result ≡ Status.WriteFault → Rose (K.faults sink.old) (K.faults sink.new) }
     ensures decided { asks_for_plain (map string_bytes words.now) ≡ true
         → ¬ (Rose (S.faults source.old) (S.faults source.new)) → ¬ (Rose (K.faults sink.old) (K.faults sink.new))
-        → IsDecided byte_limit Asks (S.left source.old) result }
+        → IsDecided byte_limit Asks (length feeds.old.items) (S.left source.old) result }
     ensures later { (S.faults source.old ≤ S.faults source.new) × (K.faults sink.old ≤ K.faults sink.new) }
     ensures kept { (result ≢ Status.ReadFault → S.faults source.new ≡ S.faults source.old) × (result ≢ Status.WriteFault → K.faults sink.new ≡ K.faults sink.old) }
 {
     if !is_plain(words) {
         return Status::Usage;
     }
-    run_plain(rt.alloc(), Kind::Asks, source, sink)
+    run_plain(rt.alloc(), Kind::Asks, source, sink, feeds)
 }
