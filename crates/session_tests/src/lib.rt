@@ -4,6 +4,8 @@
 #[cfg(test)]
 mod devices;
 #[cfg(test)]
+mod feeds;
+#[cfg(test)]
 mod rows;
 #[cfg(test)]
 mod runs;

@@ -3,7 +3,8 @@
 use crate::rows::{BASE, BASE_OUT};
 use crate::sessions::words_of;
 use carmen_cli::about::{HELP, VERSION};
-use carmen_cli::program::run_program;
+use carmen_cli::program::{end_unopened, run_program};
+use carmen_cli::words::{FeedFile, FeedFormat, feed_files};
 use geo_outside::device::Source;
 use geo_outside::memory::{MemorySink, MemorySource};
 use std::test::Fail;
@@ -19,7 +20,7 @@ struct Run {
     reads: bool,
 }
 
-const RUNS: [Run; 15] = [
+const RUNS: [Run; 16] = [
     Run {
         words: &["--help"],
         more: "",
@@ -70,6 +71,14 @@ const RUNS: [Run; 15] = [
     },
     Run {
         words: &["plain", "x"],
+        more: "",
+        writes: &[],
+        text: "",
+        told: "carmen: usage\n",
+        reads: false,
+    },
+    Run {
+        words: &["plain", "csv:"],
         more: "",
         writes: &[],
         text: "",
@@ -152,7 +161,15 @@ fn a_run_tells_what_its_words_ask_for_and_how_it_ends(rt: HostRuntime) -> Result
         let mut source = MemorySource::new(session, Vec::new(alloc));
         let mut sink = MemorySink::new(alloc, run.writes.to_vec(alloc)?);
         let mut errors = MemorySink::new(alloc, Vec::new(alloc));
-        let _ = run_program(&rt, &words, &mut source, &mut sink, &mut errors);
+        let mut no_feeds = Vec::new(alloc);
+        let _ = run_program(
+            &rt,
+            &words,
+            &mut source,
+            &mut sink,
+            &mut errors,
+            &mut no_feeds,
+        );
         assert!(rt; sink.bytes() == run.text.as_bytes(), "{}", run.told);
         assert!(rt; errors.bytes() == run.told.as_bytes(), "{}", run.told);
         let mut buf = *b"......";
@@ -160,4 +177,53 @@ fn a_run_tells_what_its_words_ask_for_and_how_it_ends(rt: HostRuntime) -> Result
         assert_eq!(rt; left, !run.reads, "{}", run.told);
     }
     Ok(())
+}
+
+/// Words, and the files of feeds that they name.
+const WORDS: [(&[&str], &[(FeedFormat, &str)]); 6] = [
+    (&["plain"], &[]),
+    (&["plain", "csv:a"], &[(FeedFormat::Csv, "a")]),
+    (
+        &["plain", "json:b c/d", "csv:csv:e", "json:ü"],
+        &[
+            (FeedFormat::Json, "b c/d"),
+            (FeedFormat::Csv, "csv:e"),
+            (FeedFormat::Json, "ü"),
+        ],
+    ),
+    (&["plain", "csv:a", "json:"], &[]),
+    (&["--help", "csv:a"], &[]),
+    (&[], &[]),
+];
+
+/// The files are these.
+fn are_files(files: &[FeedFile<'_>], wanted: &[(FeedFormat, &str)]) -> bool {
+    files.len() == wanted.len()
+        && files.iter().zip(wanted).all(|(file, (format, path))| file.format == *format
+            && file.path == *path)
+}
+
+#[test]
+fn words_name_the_files_of_feeds(rt: HostRuntime) -> Result<(), Fail> {
+    let alloc = rt.alloc();
+    for (texts, wanted) in WORDS.as_slice() {
+        let words = words_of(alloc, texts)?;
+        let files = feed_files(alloc, &words)?;
+        assert!(rt; are_files(&files, wanted), "{}", words.len());
+    }
+    Ok(())
+}
+
+#[test]
+fn a_file_that_cannot_be_opened_is_told(rt: HostRuntime) {
+    let alloc = rt.alloc();
+    let rows = [
+        (0, "carmen: feed 0 cannot be opened\n"),
+        (15, "carmen: feed 15 cannot be opened\n"),
+    ];
+    for (n, told) in rows {
+        let mut errors = MemorySink::new(alloc, Vec::new(alloc));
+        let _ = end_unopened(n, &mut errors);
+        assert!(rt; errors.bytes() == told.as_bytes(), "{told}");
+    }
 }

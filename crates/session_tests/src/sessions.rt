@@ -31,7 +31,8 @@ fn run<R: AllocGlobal>(
     let words = words_of(alloc, &["plain"])?;
     let mut source = MemorySource::new(session, reads.to_vec(alloc)?);
     let mut sink = MemorySink::new(alloc, writes.to_vec(alloc)?);
-    let status = carmen(rt, &words, &mut source, &mut sink);
+    let mut no_feeds = Vec::new(rt.alloc());
+    let status = carmen(rt, &words, &mut source, &mut sink, &mut no_feeds);
     Ok((status, sink))
 }
 
@@ -45,7 +46,8 @@ fn run_slowly<R: AllocGlobal>(rt: &R, session: Vec<u8>) -> Result<(Status, SlowS
     let mut sink = SlowSink {
         sink: MemorySink::new(alloc, Vec::new(alloc)),
     };
-    let status = carmen(rt, &words, &mut source, &mut sink);
+    let mut no_feeds = Vec::new(rt.alloc());
+    let status = carmen(rt, &words, &mut source, &mut sink, &mut no_feeds);
     Ok((status, sink))
 }
 
@@ -89,7 +91,8 @@ fn a_slow_source_keeps_what_stands_behind_the_end(rt: HostRuntime) -> Result<(),
             source: MemorySource::new(session, Vec::new(alloc)),
         };
         let mut sink = MemorySink::new(alloc, Vec::new(alloc));
-        let status = carmen(&rt, &words, &mut source, &mut sink);
+        let mut no_feeds = Vec::new(rt.alloc());
+        let status = carmen(&rt, &words, &mut source, &mut sink, &mut no_feeds);
         assert!(rt; status.is(&wanted), "{line}");
         let mut buf = *b"......";
         assert_eq!(rt; source.source.read(&mut buf), Ok(4));
@@ -135,7 +138,8 @@ fn a_source_without_an_end_is_too_much(rt: HostRuntime) -> Result<(), Fail> {
     let words = words_of(rt.alloc(), &["plain"])?;
     let mut source = Comments { reads: 0 };
     let mut sink = MemorySink::new(rt.alloc(), Vec::new(rt.alloc()));
-    let status = carmen(&rt, &words, &mut source, &mut sink);
+    let mut no_feeds = Vec::new(rt.alloc());
+    let status = carmen(&rt, &words, &mut source, &mut sink, &mut no_feeds);
     assert!(rt; status.is(&Status::TooMuch));
     assert!(rt; sink.bytes().is_empty());
     assert_eq!(rt; source.reads, 4096);
@@ -149,7 +153,8 @@ fn a_sink_without_room_is_want_of_memory(rt: HostRuntime) -> Result<(), Fail> {
     let mut session = BASE.as_bytes().to_vec(alloc)?;
     session.extend_from_slice(b"end\n")?;
     let mut source = MemorySource::new(session, Vec::new(alloc));
-    let status = carmen(&rt, &words, &mut source, &mut FullSink);
+    let mut no_feeds = Vec::new(rt.alloc());
+    let status = carmen(&rt, &words, &mut source, &mut FullSink, &mut no_feeds);
     assert!(rt; status.is(&Status::Memory));
     Ok(())
 }
@@ -199,7 +204,8 @@ fn a_round_is_written_before_the_next_block_is_read(rt: HostRuntime) -> Result<(
         sink: MemorySink::new(alloc, Vec::new(alloc)),
         written: &written,
     };
-    let status = carmen(&rt, &words, &mut source, &mut sink);
+    let mut no_feeds = Vec::new(rt.alloc());
+    let status = carmen(&rt, &words, &mut source, &mut sink, &mut no_feeds);
     assert!(rt; status.is(&Status::Done));
     assert_eq!(rt; source.before_second, BASE_OUT.len());
     Ok(())
