@@ -6,6 +6,10 @@ import json
 import re
 import unicodedata
 
+from feed_checks import (
+    CODE, IDS, MOST_FEEDS, MOST_ITEMS, Feature, feature_of_item, feature_of_text, feed_of, items_of, number_of,
+)
+
 LONGEST = 1_048_576  # the most bytes of a line
 MOST_ASKS = 4096  # of a round
 MOST_LAYERS = 16
@@ -14,47 +18,28 @@ MOST_FEATURES = 262_144
 MOST_ROWS = 8_388_608
 MOST_LIMIT = 8_388_608
 USUAL_LIMIT = 2_000_000
-IDS = 1 << 26
 
 BODY = {"put", "drop", "load", "limit", "publish", "ask", "join", "end"}
-CODE = re.compile(r"[A-Za-z][A-Za-z0-9_-]{1,15}")
-OWN_TEXT = re.compile(f"carmen:text_{CODE.pattern}")
 LAYER_FAULTS = [
     "7 Layer 1 Json", "7 Layer 2 Name", "7 Layer 3 Zoom", "7 Layer 4 Falling", "7 Layer 5 Stack", "7 Layer 6 Tokens",
     "7 Layer 7 TooMany", "7 Layer 8 ScoreMax",
-]
-FEATURE_FAULTS = [
-    "10 Feature 1 Json", "10 Feature 2 Id", "10 Feature 3 Text", "10 Feature 4 Zxy", "10 Feature 5 Zoom",
-    "10 Feature 6 Score", "10 Feature 7 Relev",
 ]
 WORTHS = list(itertools.product((40, 60, 80, 100), (96, 100)))  # relevances and factors
 NO_END = "no line `end`"
 REFUSED = re.compile(r"carmen: line ([1-9]\d*): (\d.*)\n")
 ANSWER = re.compile(r"gen (\d+) found (\d+)|gen (\d+) grids (\d+) (\d+)|unreadable (\d \w+)")
 CONTEXT = re.compile(r"context (\d+)/(\d+) score (\d+)((?: \d+:\d+@\d+/\d+/\d+\[\d+,\d+\)=\d+)+)")
+LOADED = re.compile(r"load (\d+) (\d+) read (\d+) bad (\d+) full (\d+) (end|fault|limit)")
 LINK = re.compile(r" (\d+):(\d+)@(\d+)/(\d+)/(\d+)\[(\d+),(\d+)\)=(\d+)")
 
 
 # ---- what the words of a session say
 
 
-def number_of(field):
-    """The number of a field, which is 1 to 10 digits, or None."""
-    return int(field) if re.fullmatch("[0-9]{1,10}", field) else None
-
-
 def numbers_of(text):
     """The numbers of fields with spaces between, or None."""
     numbers = [number_of(field) for field in text.split(" ") if field]
     return None if None in numbers else numbers
-
-
-def id_and_rows(text):
-    """The id of an accepted feature, and the most rows that it can have."""
-    value = json.loads(text)
-    properties = value["properties"]
-    names = ["carmen:text", *(name for name in properties if OWN_TEXT.fullmatch(name) and properties[name] is not None)]
-    return value["id"], len(properties["carmen:zxy"]) * sum(properties[name].count(",") + 1 for name in names)
 
 
 def token_count(text):
@@ -65,9 +50,11 @@ def token_count(text):
 
 
 class Reading:
-    """Where a session stands between two of its lines, and what those of its closed rounds were."""
+    """Where a session that has so many feeds stands between two of its lines, and what those of its closed rounds were."""
 
-    def __init__(self):
+    def __init__(self, feeds):
+        self.feeds = feeds
+        self.named = set()
         self.place = "title"
         self.zooms = []
         self.open = []
@@ -117,13 +104,21 @@ class Reading:
         if word == "drop":
             return ((word, *numbers), []) if numbers[0] < len(self.zooms) and numbers[1] < IDS else (None, ["8 Number"])
         if word == "load":
-            return None, ["9 Feed" if numbers[1] < len(self.zooms) else "8 Number"]
+            return self.load(*numbers)
         return (word,), []
+
+    def load(self, feed, n):
+        if n >= len(self.zooms):
+            return None, ["8 Number"]
+        if feed >= self.feeds or feed in self.named:
+            return None, ["9 Feed"]
+        return ("load", feed, n), []
 
     def put(self, n, text):
         if n >= len(self.zooms):
             return None, ["8 Number"]
-        return ("put", n, text), FEATURE_FAULTS
+        feature = feature_of_text(text.encode("utf-8"), self.zooms[n])
+        return (("put", n, feature), []) if isinstance(feature, Feature) else (None, [f"10 Feature {feature}"])
 
     def ask(self, n, text):
         if n > 7:
@@ -146,11 +141,11 @@ class Reading:
             if item[0] in ("join", "end"):
                 self.closed += self.open
                 self.open, self.asks = [], 0
-            elif item[0] == "put":
-                self.open.append((*item[:2], *id_and_rows(item[2])))
             else:
                 self.open.append(item)
                 self.asks += item[0] == "ask"
+                if item[0] == "load":
+                    self.named.add(item[1])
 
 
 def walked(reading, raw, refused):
@@ -170,7 +165,7 @@ def walked(reading, raw, refused):
         try:
             reading.take(item)
         except (ValueError, LookupError, TypeError, AttributeError, RecursionError):
-            return f"line {at} isn't refused, though its JSON is none of a {item[0]}"
+            return f"line {at} isn't refused, though its JSON is none of a layer"
         if item[0] == "end":
             return f"{told}, which stands after the end" if refused else None
     return f"{told}, which isn't there" if refused else NO_END
@@ -180,11 +175,14 @@ def walked(reading, raw, refused):
 
 
 class Standing:
-    """What stands between two lines of the closed rounds."""
+    """What stands between two lines of the closed rounds, in a session with feeds of these kinds from files with these bytes,
+    which are None where they can't be read."""
 
-    def __init__(self, zooms):
+    def __init__(self, zooms, feeds):
         self.zooms = zooms
+        self.feeds = feeds
         self.features = {}  # the most rows that each can have, by layer and id
+        self.unsure = set()  # those of them that may not stand: a load may have been refused them, or others in their place
         self.rows = 0  # the sum of these
         self.limit = USUAL_LIMIT
         self.number = 0
@@ -192,21 +190,73 @@ class Standing:
         self.published_limit = USUAL_LIMIT
         self.asks = [0] * 8
 
-    def put(self, n, some_id, rows, line):
-        at = n, some_id
+    def stands(self, at, yes, no):
+        """The words that may be told of a feature: one where it stands, one where it doesn't."""
+        return {yes, no} if at in self.unsure else {yes if at in self.features else no}
+
+    def refusals(self, at, rows):
+        """The words by which a feature may be refused for a limit."""
         risen = self.rows - self.features.get(at, 0) + rows
+        is_new = at not in self.features or at in self.unsure
+        others = len(self.features) - (at in self.features)
+        reached = {"features": is_new and others >= MOST_FEATURES, "rows": risen > MOST_ROWS}
+        return {word for word in reached if reached[word]}
+
+    def is_refused(self, at):
+        """The feature would be one too many, whatever stands of those that are unsure."""
+        return at not in self.features and len(self.features) - len(self.unsure) >= MOST_FEATURES
+
+    def put(self, n, feature, line):
+        at = n, feature.id
         front, _, said = line.rpartition(" ")
-        may_be = said == ("changed" if at in self.features else "new")
-        may_be |= said == "features" and at not in self.features and len(self.features) == MOST_FEATURES
-        may_be |= said == "rows" and risen > MOST_ROWS
+        may_be = {"features"} if self.is_refused(at) else self.stands(at, "changed", "new") | self.refusals(at, feature.rows)
         if said in ("new", "changed"):
-            self.features[at], self.rows = rows, risen
-        return front == f"put {n} {some_id}" and may_be
+            self.set(at, feature.rows)
+        return front == f"put {n} {feature.id}" and said in may_be
+
+    def set(self, at, rows):
+        """A feature stands."""
+        self.rows += rows - self.features.get(at, 0)
+        self.features[at] = rows
+        self.unsure.discard(at)
 
     def drop(self, n, some_id, line):
-        rows = self.features.pop((n, some_id), None)
-        self.rows -= rows or 0
-        return line == f"drop {n} {some_id} {'none' if rows is None else 'gone'}"
+        at = n, some_id
+        may_be = self.stands(at, "gone", "none")
+        self.rows -= self.features.pop(at, 0)
+        self.unsure.discard(at)
+        return line in {f"drop {n} {some_id} {word}" for word in may_be}
+
+    def load(self, feed, n, line):
+        found = LOADED.fullmatch(line)
+        if not found or (int(found.group(1)), int(found.group(2))) != (feed, n):
+            return False
+        read, bad, full = map(int, found.group(3, 4, 5))
+        kind, raw = self.feeds[feed]
+        items = [] if raw is None else items_of(kind, raw)[:MOST_ITEMS]
+        end = "fault" if raw is None else "limit" if len(items) == MOST_ITEMS else "end"
+        features = [feature_of_item(item, self.zooms[n]) for item in items]
+        good = [feature for feature in features if isinstance(feature, Feature)]
+        if (read, bad, found.group(6)) != (len(items), len(items) - len(good), end):
+            return False
+        return self.fill(n, good, full)
+
+    def fill(self, n, features, full):
+        """Puts features of which so many were refused, and says whether that may be."""
+        least = most = 0
+        for feature in features:
+            at = n, feature.id
+            if self.is_refused(at):
+                least, most = least + 1, most + 1
+            elif not full or not self.refusals(at, feature.rows):
+                most += bool(self.refusals(at, feature.rows))
+                self.set(at, feature.rows)
+            else:
+                most += 1
+                may_be_none = at not in self.features or at in self.unsure
+                self.set(at, max(feature.rows, self.features.get(at, 0)))
+                self.unsure |= {at} if may_be_none else set()
+        return least <= full <= most
 
     def set_limit(self, n, line):
         self.limit = n
@@ -281,15 +331,18 @@ def contexts_fault(standing, tokens, lines):
     return None
 
 
-def output_fault(reading, output):
+def output_fault(reading, feeds, output):
     """What is wrong with the text of the closed rounds, or None."""
     if output and not output.endswith("\n"):
         return "the output ends within a line"
     if re.search(r"\b0\d", output):
         return "a number begins with a zero"
     lines = collections.deque(output.split("\n")[:-1])
-    standing = Standing(reading.zooms)
-    steps = {"put": standing.put, "drop": standing.drop, "limit": standing.set_limit, "publish": standing.publish}
+    standing = Standing(reading.zooms, feeds)
+    steps = {
+        "put": standing.put, "drop": standing.drop, "load": standing.load, "limit": standing.set_limit,
+        "publish": standing.publish,
+    }
     for word, *fields in reading.closed:
         line = lines.popleft() if lines else ""
         if word in steps:
@@ -305,9 +358,10 @@ def output_fault(reading, output):
     return f"more lines: {lines[0][:120]!r}" if lines else None
 
 
-def session_fault(raw, status, told):
-    """What is wrong with the status of a run on these bytes and with its text, or None; and the reading of the closed rounds."""
-    reading = Reading()
+def session_fault(raw, feeds, status, told):
+    """What is wrong with the status of a run on these bytes with so many feeds and with its text, or None; and the reading of
+    the closed rounds."""
+    reading = Reading(feeds)
     if status == 3 and told == "carmen: no end line\n":
         fault = walked(reading, raw, None)
         return (None if fault == NO_END else fault or "status 3, and there is a line `end`"), reading
@@ -319,7 +373,21 @@ def session_fault(raw, status, told):
     return f"status {status} with {told[:120]!r} on standard error", reading
 
 
-def run_fault(raw, status, output, told):
-    """What is wrong with the status of a run on these bytes and with what it wrote, or None."""
-    fault, reading = session_fault(raw, status, told)
-    return fault or output_fault(reading, output)
+def words_end(words, files):
+    """The status and the text of a run that ends before it reads a session, by its words after `plain` and the files that
+    are there, or None."""
+    feeds = list(map(feed_of, words))
+    if None in feeds or len(feeds) > MOST_FEEDS:
+        return 1, "carmen: usage\n"
+    missing = [n for n, (_, path) in enumerate(feeds) if path not in files]
+    return (9, f"carmen: feed {missing[0]} cannot be opened\n") if missing else None
+
+
+def run_fault(thrown, status, output, told):
+    """What is wrong with the status of a run on an input, and with what it wrote, or None."""
+    end = words_end(thrown.words, thrown.files)
+    if end:
+        return None if (status, told, output) == (*end, "") else f"status {status} with {told[:120]!r}, where it is {end}"
+    fault, reading = session_fault(thrown.session, len(thrown.words), status, told)
+    feeds = [(kind, thrown.files[path]) for kind, path in map(feed_of, thrown.words)]
+    return fault or output_fault(reading, feeds, output)

@@ -1,32 +1,24 @@
-"""Random sessions: some in order, some not, and some that were in order and are changed."""
+"""Random sessions with their feeds: some in order, some not, and some that were in order and are changed."""
 
 import collections
 import random
 import re
 
-from session_checks import (
-    IDS, LONGEST, MOST_ASKS, MOST_FEATURES, MOST_LANGS, MOST_LAYERS, MOST_LIMIT, MOST_ROWS, USUAL_LIMIT,
+from feed_checks import IDS
+from session_checks import LONGEST, MOST_ASKS, MOST_FEATURES, MOST_LANGS, MOST_LAYERS, MOST_LIMIT, MOST_ROWS, USUAL_LIMIT
+from thrown_features import (
+    ESCAPES, NAMES, as_bytes, change_bytes, change_feature, digits, feature, gap, number, stock,
 )
+from thrown_feeds import NONE, broken_words, feeds, many_items, rows_file
 
-LIMITS = [
-    "0", "1", "7", "8", "15", "16", "17", "00", "007", "-1", "-0", "+1", "1.0", "1.5", "1e0", "1E2", "0.1e1",
-    "6.0", "7e-1", "255", "256", "4096", "65535", "65536", "67108863", "67108864", "67108863.0", "8388608", "8388609",
-    "2147483647", "2147483648", "4294967295", "4294967296", "9999999999", "0000000001", "00000000001",
-    "9007199254740993", "9223372036854775807", "9223372036854775808", "-9223372036854775808", "-9223372036854775809",
-    "18446744073709551615", "18446744073709551616", "1e308", "1e309", "1e999999999", "0e99", "9" * 40, "9" * 400,
-    "0x10", "1_000", "NaN", "Infinity", ".5", "5.", "",
-]
-ESCAPES = [
-    r"\u0041", r"\u0000", r"\ud800", r"\udc00", r"\ud83d\ude00", r"\ude00\ud83d", r"\n", r"\"", r"\\",
-    r"\/", r"\b", r"\x41", r"\u12", r"\U00000041", "\\", r"\ud800\u0041", r"\u006e", r"\u00e9",
-]
-NAMES = ["a", "b", "ab", "new", "New", "york", "YORKSHIRE", "paris", "st", "0", "00", "x1"]  # of features
+# The bytes of a session, the words after `plain`, the files that they name (None is a folder), and whether the session has to
+# be accepted.
+Thrown = collections.namedtuple("Thrown", "session words files in_order")
+
 WORDS = [
     "nowhere", "Z9", "saint", "petersburg", "w" * 60, "rio-de-janeiro", "o'hare", "end", "ask", "publish", "q", "7",
 ]
 SIGNS = [" ", " ", "  ", "-", ",", ".", "|", "\t", "'", "/", "{", "}", '"', "\\", "#", "=", "\r", "\u00e9"]
-POINTS = [(20000, 30000), (20001, 30000), (20300, 30011), (50000, 9)]  # as tiles of zoom 16
-Stock = collections.namedtuple("Stock", "names points")
 SKIPPED = ["", " ", "     ", "#", "# words", "#put 0 {}", "#\t", "# \u00e9\U0001f600"]
 LINES = SKIPPED + [
     "end", "end ", "end x", "end\r", "END", " end", "join", "join  ", "join join", "publish", "publish  ", "publish 1",
@@ -46,7 +38,9 @@ LINES = SKIPPED + [
     "drop 9999999999 0", "drop 0 99999999999", "drop 0 x", "drop 16 1", "drop 0 \u00e9", "drop 0 +1", "drop 0\t1",
     "limit", "limit 0", "limit 1", "limit 2", "limit 0001", "limit 8388608", "limit 8388609", "limit 00000000001",
     "limit 9999999999", "limit 1 1", "limit x", "limit -1", "limit 2 \r",
-    "load", "load 0 0", "load 0 16", "load 0", "load 0 0 0", "load 00 00", "load x 0", "explain a", "explain", "replay ; a",
+    "load", "load 0 0", "load 0 0", "load 1 0", "load 0 1", "load 2 0", "load 0 16", "load 16 0", "load 0", "load 0 0 0",
+    "load 00 00", "load  0  0 ", "load x 0", "load 0 x", "load 0 9999999999", "load 9999999999 0", "load 99999999999 0",
+    "load 00000000000 0", "load 0\t0", "load -0 0", "load 9 9", "explain a", "explain", "replay ; a",
     "replay c0 ; a", "serve", "bake", "fly",
     "ask", "ask ", "ask 0", "ask 0 ", "ask 0  ", "ask 00 a", "ask 7 a ", "ask 8 a", "ask x a", "ask  0 a", "ask 0\ta",
     "ask 0000000007 a", "ask 00000000007 a", "ask 0 \u00e9", "ask 8 \u00e9", "ask x \u00e9", "ask 9 lang=en | a",
@@ -68,58 +62,6 @@ FILLED = [  # which lines of it a filled line stands for, and what is filled
     (2, 3, 'put 0 {"id":1,"properties":{"carmen:text":"', "a,", '","carmen:zxy":["6/0/0"]}}'),
     (3, 4, "publish", " ", ""), (4, 5, "ask 0 ", "a ", ""), (5, 6, "end", " ", ""), (6, 6, "#", "#", ""),
 ]
-
-
-def number(rng):
-    """A number, near a limit more often than not."""
-    if rng.random() < 0.6:
-        return rng.choice(LIMITS)
-    return str(rng.randrange(1 << rng.randrange(1, 70)))
-
-
-def digits(rng, n):
-    """The number, at times with zeros before it."""
-    return str(n).zfill(rng.choice([0, 0, 0, 0, 2, 10]))
-
-
-def gap(rng):
-    """The spaces between two fields."""
-    return rng.choice([" ", " ", " ", "  ", "     "])
-
-
-def stock(rng):
-    """A few names and a few points, so that queries match and tiles nest."""
-    return Stock(rng.sample(NAMES, rng.choice([1, 2, 3, 5])), rng.sample(POINTS, rng.choice([1, 1, 2, 4])))
-
-
-def name(rng, names, tokens):
-    """A text of so many of the names."""
-    return rng.choice([" ", " ", "-", " ' "]).join(rng.choice(names) for _ in range(tokens))
-
-
-def tile(rng, zoom, points):
-    """A tile of the zoom, mostly one over a point."""
-    x, y = rng.choice(points) if rng.random() < 0.8 else (rng.randrange(1 << 16), rng.randrange(1 << 16))
-    return "/".join(digits(rng, n) for n in (zoom, x >> (16 - zoom), y >> (16 - zoom)))
-
-
-def feature(rng, zoom, some_id, of):
-    """The JSON of a feature, which is in order."""
-    names = [name(rng, of.names, rng.choice([1, 1, 1, 1, 2, 3])) for _ in range(rng.choice([1, 1, 1, 1, 2, 3]))]
-    if rng.random() < 0.05:
-        names.append(rng.choice(["", ".", name(rng, of.names, 20), name(rng, of.names, 21), names[0]]))
-    tiles = ",".join(f'"{tile(rng, zoom, of.points)}"' for _ in range(rng.choice([1, 1, 1, 2, 3])))
-    members = [f'"carmen:text":"{rng.choice([",", ", "]).join(names)}"', f'"carmen:zxy":[{tiles}]']
-    if rng.random() < 0.4:
-        members.append('"carmen:score":' + rng.choice(["0", "1", "2", "9", "15", "16", "-3", "null", "18446744073709551615"]))
-    if rng.random() < 0.1:
-        members.append(rng.choice(['"carmen:relev":null', '"carmen:text_en":null', '"carmen:text_":1', '"x":1.5', '"y":[{}]']))
-    rng.shuffle(members)
-    whole = [f'"id":{some_id}', '"properties":{%s}' % ",".join(members)]
-    if rng.random() < 0.1:
-        whole.append(rng.choice(['"type":"Feature"', '"geometry":null', '"bbox":[0.5,1e2,-1,2]', '"x":"\\u0041"']))
-    rng.shuffle(whole)
-    return "{%s}" % ",".join(whole)
 
 
 def layer(rng, zoom):
@@ -199,7 +141,7 @@ def ended(rng, lines):
 
 
 def accepted(rng):
-    """A session that is in order."""
+    """A session that is in order, at times with feeds, whatever these give."""
     of = stock(rng)
     layers = rng.choice([1, 1, 2, 2, 3, 3, 4, 6, 16])
     zooms = sorted(rng.choice([0, 1, 4, 6, 8, 16, rng.randrange(17)]) for _ in range(layers))
@@ -208,8 +150,11 @@ def accepted(rng):
     for _ in range(features):
         k = rng.randrange(len(zooms))
         first.append(f"put {k} " + feature(rng, zooms[k], rng.randrange(5 if features < 60 else 60), of))
-    body = [body_line(rng, zooms, of) for _ in range(rng.choice([0, 1, 5, 20]))]
-    return ended(rng, head(rng, zooms) + first + ["publish"] * rng.choice([0, 1, 1, 1]) + body)
+    body = first + ["publish"] * rng.choice([0, 1, 1, 1]) + [body_line(rng, zooms, of) for _ in range(rng.choice([0, 1, 5, 20]))]
+    given = feeds(rng, zooms, of) if rng.random() < 0.4 else NONE
+    for load in given.loads:
+        body.insert(rng.randrange(len(first if rng.random() < 0.6 else body) + 1), load)
+    return Thrown(as_bytes(ended(rng, head(rng, zooms) + body)), given.words, given.files, True)
 
 
 def padded(rng):
@@ -282,6 +227,29 @@ def heavy(rng):
     return "\n".join(["carmen 1", 'layer {"name":"city","zoom":12}'] + lines + ["publish", "ask 0 other", "end", ""])
 
 
+def heavy_loads(rng):
+    """Feeds with as many items, features or rows as are allowed, and with more; the session is in order."""
+    draw = rng.random()
+    if draw < 0.4:
+        words, files = many_items(rng)
+    elif draw < 0.7:
+        ids = [*range(MOST_FEATURES + rng.choice([-1, 0, 1, 2])), *rng.sample(range(MOST_FEATURES), 3), IDS - 1]
+        rng.shuffle(ids)
+        words, files = ["csv:0"], {"0": rows_file((k, "a", "12/0/0", "") for k in ids)}
+    else:
+        tiles = " ".join(f"12/{k % 64}/{k // 64}" for k in range(4096))
+        most = MOST_ROWS // 4096
+        half = rng.choice([1, most // 2, most - 1])
+        sizes = [(1, half), (2, most - half), (1, half), (2, most - half + 1), (3, 1), (2, 1), (4, 1)]
+        rows = [(some_id, '"%s"' % ",".join(f"n{k}" for k in range(names)), tiles, "") for some_id, names in sizes]
+        words, files = ["csv:0"], {"0": rows_file(rows)}
+    words, files = words + ["csv:few"], {**files, "few": rows_file([(k, "few", "12/9/9", 3) for k in (1, 2, IDS - 1)])}
+    lines = ["load 0 0", "load 1 0", 'put 0 {"id":3,"properties":{"carmen:text":"one","carmen:zxy":["12/0/0"]}}']
+    lines += ["drop 0 1", "publish", "ask 0 few", "ask 0 one"]
+    text = "\n".join(["carmen 1", 'layer {"name":"city","zoom":12}'] + lines + ["end", ""])
+    return Thrown(as_bytes(text), words, files, True)
+
+
 def noise(rng):
     """Bytes with no order, or lines or words of a session with none."""
     draw = rng.random()
@@ -291,33 +259,6 @@ def noise(rng):
         lines = [rng.choice(LINES) for _ in range(rng.randrange(30))]
         return "\n".join(rng.choice([[], ["carmen 1"], ["carmen 1", 'layer {"name":"city","zoom":6}']]) + lines + ["end", ""])
     return "".join(rng.choice(LINES + NAMES + WORDS + SIGNS + ["\n", "\n", "\r\n"]) for _ in range(rng.randrange(60)))
-
-
-def change_feature(rng, line):
-    """The line of a put with something done to its JSON."""
-    kind = rng.randrange(5)
-    if kind == 0:
-        return re.sub(r'"id":[^,}]*', lambda m: '"id":' + number(rng), line, count=1)
-    if kind == 1:
-        return re.sub(r'("carmen:score":)[^,}]*', lambda m: m.group(1) + number(rng), line, count=1)
-    if kind == 2:
-        twice = rng.choice([
-            '"carmen:score":1.5,', '"carmen:score":1.0,', '"carmen:score":-1,', '"carmen:text":"a",', '"carmen:text":1,',
-            '"carmen:text":"\\u00e9",', '"carmen\\u003atext":"b",', '"carmen:text_de":"a",', '"carmen:text_de":null,',
-            '"carmen:text_d":"a",', '"carmen:zxy":[],', '"carmen:zxy":null,', '"carmen:relev":80,', '"carmen:relev":null,',
-            '"carmen:other":1,', '"x":null,',
-        ])
-        return line.replace('"properties":{', '"properties":{' + twice, 1)
-    if kind == 3:
-        words = " ".join(["w"] * rng.choice([19, 20, 21]))
-        inside = rng.choice([",", "\u00e9", "\\u00e9", "\U0001f600", " ", "", ",,,", words])
-        return re.sub(r'("carmen:text":")[^"]*', lambda m: m.group(1) + inside, line, count=1)
-    spot = rng.choice([
-        '"6/0/0"', '"6/63/63"', '"6/64/0"', '"5/1/1"', '"06/1/1"', '"6/1"', '"6/1/1/"', '"6/-1/1"', '"6/ 1/1"', '"17/0/0"',
-        "6", "null", "",
-    ])
-    count = rng.choice([1, 1, 2, 4096, 4097])
-    return re.sub(r'("carmen:zxy":\[)[^\]]*', lambda m: m.group(1) + ",".join([spot] * count), line, count=1)
 
 
 def change_layer(rng, line):
@@ -363,6 +304,11 @@ def asked(rng):
     return f"ask {rng.choice(['0', '1', '7', '8', ''])} {options}" + "".join(words)
 
 
+def loaded(rng):
+    """A load of a feed that may be there, or may be named by another line."""
+    return f"load{gap(rng)}{rng.choice([0, 0, 1, 2, 15, 16])}{gap(rng)}{rng.choice([0, 0, 1, 16, number(rng)])}"
+
+
 def change_lines(rng, text):
     """The text with a line doubled, dropped, swapped, put in or changed."""
     lines = text.split("\n")
@@ -378,7 +324,7 @@ def change_lines(rng, text):
     elif kind == 3:
         lines.insert(at, rng.choice(LINES))
     elif kind == 4:
-        lines.insert(at, asked(rng))
+        lines.insert(at, asked(rng) if rng.random() < 0.7 else loaded(rng))
     elif kind == 5:
         lines[at] = re.sub(r"\d+", lambda m: number(rng) if rng.random() < 0.5 else m.group(), lines[at])
     elif kind == 6:
@@ -391,53 +337,37 @@ def change_lines(rng, text):
     return "\n".join(lines)
 
 
-def change_bytes(rng, raw):
-    """The bytes cut off, flipped, dropped or put in."""
-    raw = bytearray(raw)
-    kind = rng.randrange(5)
-    if kind == 0:
-        return bytes(raw[: rng.randrange(len(raw) + 1)])
-    for _ in range(rng.choice([1, 1, 1, 2, 8])):
-        at = rng.randrange(len(raw) + 1)
-        if kind == 1 and at < len(raw):
-            raw[at] ^= 1 << rng.randrange(8)
-        elif kind == 2 and at < len(raw):
-            raw[at] = rng.randrange(256)
-        elif kind == 3:
-            del raw[at : at + rng.choice([1, 1, 2, 40])]
-        elif kind == 4:
-            raw[at:at] = rng.choice([b"\n", b"\r", b"\0", b" ", b"\xff", b"\xc3\xa9", b'"', b"\xef\xbb\xbf", b"}"])
-    return bytes(raw)
-
-
-def as_bytes(text):
-    return text if isinstance(text, bytes) else text.encode("utf-8", "surrogatepass")
-
-
 def mutated(rng, examples):
-    """A session that was in order and is changed by lines, by bytes, or by both."""
-    text = rng.choice(examples)[0] if rng.random() < 0.4 else accepted(rng)
-    if rng.random() < 0.7:
+    """A session that was in order and is changed by lines, by bytes, or by both; at times the words of its feeds are too."""
+    some = rng.choice(examples) if rng.random() < 0.4 else accepted(rng)
+    text, words = some.session.decode("utf-8"), some.words
+    if words and rng.random() < 0.2:
+        words = broken_words(rng, words)
+    elif rng.random() < 0.7:
         for _ in range(rng.choice([1, 1, 1, 2, 3])):
             text = change_lines(rng, text)
     raw = as_bytes(text)
-    return change_bytes(rng, raw) if rng.random() < 0.4 else raw
+    return Thrown(change_bytes(rng, raw) if rng.random() < 0.4 else raw, words, some.files, False)
+
+
+def alone(made):
+    """A session that has no feeds, and whether it is in order."""
+    text, in_order = made
+    return Thrown(as_bytes(text), [], {}, in_order)
 
 
 def make(seed, index, examples):
-    """The input of this number, and whether it has to be accepted."""
+    """The input of this number."""
     rng = random.Random(f"{seed}/{index}")
     if index < len(examples):
-        text, in_order = examples[index]
-        return as_bytes(text), in_order
+        return examples[index]
     draw = rng.random()
     if draw < 0.25:
-        return as_bytes(accepted(rng)), True
+        return accepted(rng)
     if draw < 0.30:
-        text, in_order = padded(rng) if draw < 0.27 else many(rng) if draw < 0.28 else heads(rng)
-        return as_bytes(text), in_order
-    if draw < 0.302:
-        return as_bytes(heavy(rng)), True
+        return alone(padded(rng) if draw < 0.27 else many(rng) if draw < 0.28 else heads(rng))
+    if draw < 0.304:
+        return alone((heavy(rng), True)) if draw < 0.302 else heavy_loads(rng)
     if draw < 0.39:
-        return as_bytes(nested(rng) if draw < 0.33 else noise(rng)), False
-    return mutated(rng, examples), False
+        return alone((nested(rng) if draw < 0.33 else noise(rng), False))
+    return mutated(rng, examples)
