@@ -1,0 +1,8 @@
+pub mod PackedFacts
+pub mod Lengths
+mod Fields
+mod Records
+mod Stays
+mod RowSteps
+mod KeptFacts
+mod ListSteps
