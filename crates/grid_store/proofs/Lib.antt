@@ -1,0 +1,10 @@
+mod ListFacts
+mod OrderFacts
+mod PackedFacts
+mod GroupFacts
+mod MarkFacts
+mod PartFacts
+mod RangeFacts
+mod TopFacts
+mod RecordFacts
+mod MakingFacts
