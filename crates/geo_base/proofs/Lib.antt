@@ -3,6 +3,8 @@ pub mod OrderLaws
 pub mod Members
 pub mod BestFacts
 pub mod SameLinks
+pub mod RisingFacts
+pub mod CellFacts
 pub mod ChainFacts
 pub mod ContextFacts
 pub mod AnswerFacts

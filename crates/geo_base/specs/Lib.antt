@@ -10,6 +10,8 @@ pub mod Context
 pub mod Order
 pub mod Best
 pub mod Answer
+pub mod Job
+pub mod CellOrder
 pub mod Examples
 -- for private contracts alone
 pub mod Filled
