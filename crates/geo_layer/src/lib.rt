@@ -8,3 +8,4 @@ pub mod laws;
 pub mod layer;
 pub mod layers;
 pub mod read_layer;
+mod stacks;
