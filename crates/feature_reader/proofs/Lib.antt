@@ -1,6 +1,7 @@
 mod CollectedFacts
 mod Tables
 mod Rows
+mod LayerRange
 mod OwnTexts
 mod RowFacts
 mod Rising
@@ -13,3 +14,4 @@ mod LanguageFacts
 mod OwnCodes
 mod WorkedLanguages
 pub mod Zooms
+pub mod OfHead

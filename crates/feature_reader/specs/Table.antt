@@ -1,6 +1,7 @@
 -- The table of features, as the fold of the puts and drops, within its limits.
-use Rattle.std.specs.Prelude.{◌≡◌, ℕ, ◌≤◌, ◌*◌, Bool, true, List, [], ◌∷◌, ◌&&◌, ◌||◌, ◌==◌, not, nat_lt, nat_le, length, sum_by, filter, if◌then◌else◌, AllPairs, Result, Ok, Err}
+use Rattle.std.specs.Prelude.{◌≡◌, ℕ, ◌≤◌, ◌*◌, Bool, true, List, [], ◌∷◌, ◌&&◌, ◌||◌, ◌==◌, not, nat_lt, nat_le, length, map, sum_by, filter, slice_get, if◌then◌else◌, All, AllPairs, IfSome, IsSome, Result, Ok, Err}
 use Rattle.std.specs.List.{list_any}
+use Rattle.geo_layer.specs.declared.head.Head.{Head}
 use Rattle.feature_reader.specs.FeatureView.{FeatureView}
 use Rattle.feature_reader.specs.declared.table.Place.{Place}
 use Rattle.feature_reader.specs.declared.taker.PutFault.{PutFault}
@@ -36,6 +37,10 @@ comes_before layer id entry = nat_lt layer entry.0 || (layer == entry.0 && nat_l
 abbrev pub inserted : ℕ → FeatureView → Table → Table
 inserted layer f [] = (layer, f) ∷ []
 inserted layer f (entry ∷ entries) = if comes_before layer f.id entry then (layer, f) ∷ entry ∷ entries else entry ∷ inserted layer f entries
+
+-- the features of a layer
+abbrev pub features_in : Table → ℕ → List FeatureView
+features_in table layer = map (λ entry. entry.1) (filter (λ entry. entry.0 == layer) table)
 
 -- the rows of a feature: its phrases times its tiles
 abbrev pub rows_of : FeatureView → ℕ
@@ -85,3 +90,7 @@ IsTable table = AllPairs (λ a b. comes_before a.0 a.1.id b ≡ true) table
 -- the table keeps its limits
 abbrev pub IsWithinLimits : Table → Type 0
 IsWithinLimits table = (length table ≤ most_features) × (rows table ≤ most_rows)
+
+-- each feature is in a layer of the head, and its tiles have that layer's zoom
+abbrev pub IsOfHead : Head → Table → Type 0
+IsOfHead head table = All (λ entry. IsSome (slice_get head.layers entry.0) × IfSome (slice_get head.layers entry.0) (λ layer. All (λ t. t.z ≡ layer.zoom) entry.1.tiles)) table

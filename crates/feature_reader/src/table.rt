@@ -1,17 +1,17 @@
 //! The table of features.
 
-ghost use Rattle.std.specs.Prelude.{◌≡◌, ◌+◌, ◌<◌, ◌≤◌, ◌^◌, List, [], length, map, slice_get, Some, Ok, Err, IfOk, IfErr, IfSome, OnOk, All, is_some, true, not, if◌then◌else◌};
+ghost use Rattle.std.specs.Prelude.{◌≡◌, ◌+◌, ◌<◌, ◌≤◌, ◌^◌, List, [], length, map, sum_by, slice_get, Some, Ok, Err, IfOk, IfErr, IfSome, OnOk, All, is_some, true, not, if◌then◌else◌};
 ghost use Rattle.geo_base.specs.declared.refusal.Refused.TheVariants as refused;
 ghost use Rattle.feature_reader.specs.declared.taker.PutFault.{PutFault};
 ghost use Rattle.feature_reader.specs.declared.taker.Taken.TheVariants as taken;
-ghost use Rattle.feature_reader.specs.Table.{IsTable, IsWithinLimits, entry_of, stands, without, with_feature, is_one_too_many, put, put_answer, rows_of, rows, most_features};
+ghost use Rattle.feature_reader.specs.Table.{IsTable, IsWithinLimits, entry_of, stands, without, with_feature, is_one_too_many, put, put_answer, rows_of, rows, most_features, most_rows, features_in};
 
 use crate::feature::Feature;
 use crate::taker::{PutFault, Taken, Taker};
 use geo_base::refusal::{Memory, Refused};
 use std::alloc::Global;
 use std::collections::BTreeMap;
-use std::collections::btree_map::Iter;
+use std::collections::btree_map::{Iter, Range};
 use std::marker::Model;
 
 /// Where a feature stands in the table: by its layer, and in the layer by its id.
@@ -74,6 +74,8 @@ impl Taker for FeatureTable {
     ghost table = { λ t. t };
 
     ghost takes = { λ t layer zoom. nat_lt layer 16 };
+
+    ghost with_table = { λ t other. other };
 
     /// Takes a feature into a layer. A limit is found before any room is asked for, so memory is
     /// never refused in its place.
@@ -188,6 +190,21 @@ impl FeatureTable {
         ensures is { IsTable self.now }
     {
         self.features.iter()
+    }
+
+    /// Lends the features of a layer at their places, from the smallest id to the greatest, without a look at the others.
+    pub fn layer(&self, layer: u8) -> Range<'_, Place, Feature>
+        requires { layer < 16 }
+        ensures value { map (λ entry. entry.1) result ≡ features_in self.now layer }
+        ensures is { IsTable self.now }
+        ensures few { sum_by rows_of (features_in self.now layer) ≤ most_rows }
+    {
+        let first = Place { layer, id: 0 };
+        let next = Place {
+            layer: layer + 1,
+            id: 0,
+        };
+        self.features.range(first..next)
     }
 
     /// An equal table.

@@ -53,11 +53,16 @@ pub trait Taker {
     /// Whether it takes features of a layer whose tiles have a zoom.
     ghost takes: { Self → ℕ → ℕ → Bool };
 
+    /// The same with other features.
+    ghost with_table: { Self → Table → Self };
+
     /// Takes a feature into a layer, in the place of the one of its layer and id where one stood.
     /// A feature that is refused, for a limit or for want of memory, is dropped, and all stays as before.
+    /// Nothing but the features changes.
     fn take(&mut self, layer: u8, f: Feature) -> Result<Taken, Refused<PutFault>>
         requires { takes self.old layer (zoom_of f) ≡ true }
         ensures layers { takes self.new ≡ takes self.old }
+        ensures rest { with_table self.new ≡ with_table self.old }
         ensures ok { IfOk result (λ taken. (put_answer (table self.old) layer f ≡ Ok taken) × (table self.new ≡ put (table self.old) layer f)) }
         ensures fault { (fault : PutFault) → result ≡ Err (refused.Fault fault) → (put_answer (table self.old) layer f ≡ Err fault) × (table self.new ≡ table self.old) }
         ensures memory { result ≡ Err refused.Memory → table self.new ≡ table self.old };
