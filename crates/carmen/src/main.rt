@@ -12,9 +12,11 @@ use geo_outside::device::{Sink, Source};
 use geo_outside::edge::{ReadSource, WriteSink};
 use session_text::status::Status;
 use std::fs::File;
+use std::io::ErrorKind;
 use std::process::ExitCode;
 
-/// Opens the files of the feeds in order, and runs the program with them. Where one can't be opened, nothing is read.
+/// Opens the files of the feeds in order, and runs the program with them. Where one can't be opened, nothing is read; where
+/// that is for want of memory, this is the answer.
 fn run<S: Source, K: Sink, E: Sink>(
     rt: &HostRuntime,
     words: &[String],
@@ -26,8 +28,10 @@ fn run<S: Source, K: Sink, E: Sink>(
     let files = feed_files(alloc, words)?;
     let mut feeds: Vec<Box<dyn Feed>> = Vec::new(alloc);
     for (n, file) in files.iter().enumerate() {
-        let Ok(opened) = File::open(rt, file.path) else {
-            return Ok(end_unopened(n, errors));
+        let opened = match File::open(rt, file.path) {
+            Ok(opened) => opened,
+            Err(error) if error.kind() == ErrorKind::OutOfMemory => return Err(Memory),
+            Err(_) => return Ok(end_unopened(n, errors)),
         };
         let bytes = ReadSource::new(opened);
         match file.format {

@@ -1,6 +1,6 @@
 -- The rows of a text of CSV, taken one by one.
-use Rattle.std.proofs.Common.{◌≡◌, ◌<◌, ◌⊎◌, ℕ, zero, suc, Bool, true, false, List, [], ◌∷◌, ◌++◌, ◌+◌, ◌&&◌, length, Option, Some, None, refl, sym, ap, subst, ◌∙◌, inl, inr, arith, codes, bytes_eq, IfSome, IfOk, option_map, Result, Ok, Err}
-use Rattle.std.specs.Prelude.{if◌then◌else◌, ◌≢◌}
+use Rattle.std.proofs.Common.{◌≡◌, ◌<◌, ◌⊎◌, ℕ, zero, suc, Bool, true, false, List, [], ◌∷◌, ◌++◌, ◌+◌, ◌&&◌, length, Option, Some, None, refl, sym, ap, subst, ◌∙◌, inl, inr, arith, codes, bytes_eq, IfSome, IfOk, Result, Ok, Err}
+use Rattle.std.specs.Prelude.{if◌then◌else◌}
 use Rattle.csv.specs.Machine.{Read, next_record, step, is_end, ends_at_end, fields_after, field_after}
 use Rattle.csv.specs.Reading.{records_from, records_next, default_config, ReadRecord, Reached}
 use Rattle.csv.specs.Records.{field_at}
@@ -124,15 +124,6 @@ header_is (p ∷ q ∷ r ∷ []) a b c d n = absurd (omega arith)
 header_is (p ∷ q ∷ r ∷ s ∷ []) a b c d n = λ w x y z. rw (w, x, y, z) refl
 header_is (p ∷ q ∷ r ∷ s ∷ t ∷ more) a b c d n = absurd (omega arith)
 
--- a record of more or fewer fields isn't
-pub other_length : (row : List (List ℕ)) → length row ≢ 4 → is_header row ≡ false
-other_length [] n = refl
-other_length (p ∷ []) n = refl
-other_length (p ∷ q ∷ []) n = refl
-other_length (p ∷ q ∷ r ∷ []) n = refl
-other_length (p ∷ q ∷ r ∷ s ∷ []) n = absurd (n refl)
-other_length (p ∷ q ∷ r ∷ s ∷ t ∷ more) n = refl
-
 -- the rows at an open stage are those of the reader
 pub rows_open : (s : Stage) (o : Option Rows) → s ≡ stage.Open → rows_at s o ≡ o
 rows_open s o is = rw is refl
@@ -156,12 +147,3 @@ pub header_first : (rows : Rows) (row : List (List ℕ)) (o : Option (List (List
 header_first rows row o left after header gave next =
     let behind : without_header rows ≡ gave.0 = rw (gave.1, header) refl in
     subst (λ r. GivesRow r o after) (sym behind) (next gave.0 gave.2)
-
--- the rows before any was read are the records without a header
-pub fresh_gives : (fresh : Bool) (left after : Option Rows) (o : Option (List (List ℕ))) (rows : Rows) → fresh ≡ true
-    → (if fresh then option_map without_header left else left) ≡ Some rows
-    → ((records : Rows) → left ≡ Some records → GivesRow (without_header records) o after) → GivesRow rows o after
-fresh_gives fresh None after o rows is told gave = cc (rw is at told)
-fresh_gives fresh (Some records) after o rows is told gave =
-    let same : without_header records ≡ rows = cc (rw is at told) in
-    subst (λ r. GivesRow r o after) same (gave records refl)

@@ -6,11 +6,15 @@ use Rattle.geo_outside.specs.Device.{raised}
 use Rattle.geo_layer.specs.Layer.{LayerView}
 use Rattle.feature_reader.specs.Table.{Table}
 use Rattle.feature_feed.specs.Feed.{Gives}
-use Rattle.feature_feed.specs.Drain.{outcome_of, outcomes_of, after_item, after_items, is_bad, is_full, with_outcome, Gave, Tells, IsLoad}
+use Rattle.feature_feed.specs.Drain.{outcome_of, outcomes_of, after_item, after_items, is_bad, is_full, with_outcome, Gave, IsLoad}
 use Rattle.feature_feed.specs.declared.feed.FeedItem.{FeedItem}
 use Rattle.feature_reader.specs.declared.load_report.LoadReport.{LoadReport}
 use Rattle.feature_feed.specs.declared.drain.Outcome.{Outcome}
 use Rattle.feature_feed.specs.declared.drain.Outcome.TheVariants.{Bad, Full, Put}
+
+-- while nothing failed: of items that it told, it still tells what is left behind those that it gave
+abbrev pub Tells : Option (List FeedItem) → List FeedItem → Option (List FeedItem) → Type 0
+Tells before gave left = (items : List FeedItem) → before ≡ Some items → (more : List FeedItem) × (left ≡ Some more) × (items ≡ gave ++ more)
 
 -- what the feed gave so far was put and counted, and it tells what is left
 pub record Filling (before : Option (List FeedItem)) (layer : LayerView) (langs : List (List ℕ)) (place : ℕ) (table : Table) (report : LoadReport) (gave : List FeedItem) (left : Option (List FeedItem)) (now : Table) : Type 0 where
@@ -75,15 +79,6 @@ module _ (layer : LayerView) (langs : List (List ℕ)) (place : ℕ) where
               full = full_more report o ∙ ap (λ n. n + cond (is_full o) 1 0) so_far.load.full ∙ sym (counted is_full table now gave item o so_far.load.table came);
               table = put ∙ ap (λ (t : Table). after_item layer langs place t item) so_far.load.table ∙ sym (fold-append (after_item layer langs place) table gave (item ∷ []));
             };
-      }
-
-  -- nothing was given yet
-  pub filling_none : (before : Option (List FeedItem)) (table : Table) (report : LoadReport) → report.read ≡ 0 → report.bad ≡ 0 → report.full ≡ 0 → Filling before layer langs place table report [] before table
-  filling_none before table report read bad full =
-      record {
-        tells = λ items is. (items, is, refl);
-        rest = λ more is. is;
-        load = record { read = read; bad = bad; full = full; table = refl };
       }
 
 -- what the feed gave, where a pull changed nothing, or only that it tells no more

@@ -5,6 +5,7 @@ mod Filled
 mod FirstFeed
 pub mod ItemZooms
 mod LinesLeft
+mod OneLoad
 pub mod SeenWalks
 mod TakingFacts
 mod ToldBefore

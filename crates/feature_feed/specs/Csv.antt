@@ -25,7 +25,3 @@ row_items rows = map Row rows
 -- the items of a text of CSV: a row for each of its records, but none for a header before all others
 abbrev pub csv_items : List ℕ → List FeedItem
 csv_items bytes = row_items (without_header (records default_config (strip_bom bytes)))
-
--- the most bytes that are taken of a source, as if it ended there
-abbrev pub most_bytes : ℕ
-most_bytes = 268435456

@@ -1,4 +1,4 @@
--- What a reader of CSV has left, and what taking a row of it does.
+-- For private contracts alone: what a reader of CSV has left, and what taking a row of it does.
 use Rattle.std.specs.Prelude.{◌≡◌, ℕ, ◌+◌, List, [], ◌∷◌, length, true, Option, Some, None, option_map}
 use Rattle.csv.specs.Reading.{records_from, default_config, source_of, Ready, reader_state, reader_config, reader_trim, is_flexible}
 use Rattle.csv.specs.declared.parser.State.{State}

@@ -58,9 +58,7 @@ pub record IsLoad (layer : LayerView) (langs : List (List ℕ)) (place : ℕ) (b
   pub full : report.full ≡ count_by is_full (outcomes_of layer langs place before gave)
   pub table : after ≡ after_items layer langs place before gave
 
--- while nothing failed: of items that it told, it still tells what is left behind those that it gave
-abbrev pub Tells : Option (List FeedItem) → List FeedItem → Option (List FeedItem) → Type 0
-Tells before gave left = (items : List FeedItem) → before ≡ Some items → (more : List FeedItem) × (left ≡ Some more) × (items ≡ gave ++ more)
+-- ---- for a private contract alone
 
 -- a report with one more item, of which this came
 abbrev pub with_outcome : LoadReport → Outcome → LoadReport

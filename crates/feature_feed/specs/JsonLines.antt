@@ -20,28 +20,26 @@ items_of_lines lines = map (λ line. Json line) (filter has_byte lines)
 abbrev pub json_items : List ℕ → List FeedItem
 json_items bytes = items_of_lines (lines bytes)
 
--- the most bytes of a source that are read
-abbrev pub byte_limit : ℕ
-byte_limit = 268435456
-
 -- ---- what is left of a source
+
+-- the bytes that have come, and behind them the first ones, up to a count, of those that a source has left, where it tells them
+abbrev pub bytes_left : List ℕ → ℕ → Option (List ℕ) → Option (List ℕ)
+bytes_left buffered room left = option_map (λ bytes. buffered ++ take room bytes) left
+
+-- their items
+abbrev pub items_left : List ℕ → ℕ → Option (List ℕ) → Option (List FeedItem)
+items_left buffered room left = option_map json_items (bytes_left buffered room left)
+
+-- ---- for private contracts alone
 
 -- there is no line feed among these bytes
 abbrev pub NoFeed : List ℕ → Type 0
 NoFeed [] = ⊤
 NoFeed (b ∷ bs) = ((b == 10) ≡ false) × NoFeed bs
 
--- the bytes that have come, and behind them the first ones, up to a count, of those that a source has left, where it tells them
-abbrev pub bytes_left : List ℕ → ℕ → Option (List ℕ) → Option (List ℕ)
-bytes_left buffered room left = option_map (λ bytes. buffered ++ take room bytes) left
-
--- their lines
+-- the lines of the bytes that are left
 abbrev pub lines_left : List ℕ → ℕ → Option (List ℕ) → Option (List (List ℕ))
 lines_left buffered room left = option_map lines (bytes_left buffered room left)
-
--- their items
-abbrev pub items_left : List ℕ → ℕ → Option (List ℕ) → Option (List FeedItem)
-items_left buffered room left = option_map json_items (bytes_left buffered room left)
 
 -- this one before those that are left, where they are known
 abbrev pub onto : {A : Type 0} → A → Option (List A) → Option (List A)

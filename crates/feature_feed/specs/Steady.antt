@@ -1,4 +1,4 @@
--- What a source shows that is followed from its beginning.
+-- For private contracts alone: what a source shows that is followed from its beginning.
 use Rattle.std.specs.Prelude.{ℕ, List, Option, Some, None}
 
 -- the bytes that are left, where the source told them from the beginning on; and how many reads have failed

@@ -1,4 +1,4 @@
--- What taking bytes of a source into memory does.
+-- For private contracts alone: what taking bytes of a source into memory does.
 use Rattle.std.specs.Prelude.{◌≡◌, ℕ, List, ◌++◌, Option, Some}
 
 -- of what was taken and what the source has left nothing is lost

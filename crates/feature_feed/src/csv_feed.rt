@@ -1,16 +1,16 @@
 //! A feed of the rows of a source of CSV.
 
-ghost use Rattle.std.specs.Prelude.{◌≡◌, ◌≢◌, ◌≤◌, ℕ, List, Option, Some, Err, IfOk, OnErr, take};
+ghost use Rattle.std.specs.Prelude.{◌≡◌, ◌≢◌, ◌≤◌, List, Some, None, Err, IfOk, OnErr, option_map, take};
 ghost use Rattle.geo_outside.specs.Device.{Rose};
-ghost use Rattle.feature_feed.specs.Csv.{csv_items, most_bytes};
+ghost use Rattle.feature_feed.specs.Csv.{csv_items, row_items};
 ghost use Rattle.feature_feed.specs.CsvFeed.{csv_left, csv_given, csv_faults, csv_view};
-ghost use Rattle.feature_feed.specs.Feed.{Gives, given_after};
+ghost use Rattle.feature_feed.specs.Feed.{Gives, given_after, most_bytes};
 ghost use Rattle.feature_feed.specs.declared.feed.FeedItem.{FeedItem};
 
 use crate::csv_rows::Rows;
-use crate::feed::{Feed, FeedError, FeedItem};
+use crate::feed::{Feed, FeedError, FeedItem, MOST_BYTES};
 use crate::seen::Seen;
-use crate::taking::{MOST_BYTES, take_source};
+use crate::taking::take_source;
 use feature_reader::raw::RawRow;
 use geo_base::refusal::Memory;
 use geo_outside::device::Source;
@@ -30,15 +30,41 @@ pub struct CsvFeed<S> {
     // what the source was at each pull that took of it
     seen: Seen<S>,
     taken: Vec<u8>,
-    // the rows of what was taken, once that is all
-    rows: Option<Rows>,
+    // once all is taken
+    opened: Option<Opened>,
+}
+
+/// The rows of what was taken, and how many of them were given.
+#[derive(Drop)]
+struct Opened {
+    rows: Rows,
     given: u64,
+}
+
+impl Opened {
+    /// The next row. After a want of memory there is none any more, but that answer again.
+    fn next(&mut self) -> Result<Option<FeedItem>, FeedError>
+        ensures taken { IfOk result (λ o. (items : List FeedItem) → option_map row_items self.old.rows ≡ Some items → Gives items o (option_map row_items self.new.rows)) }
+        ensures told { (items : List FeedItem) → option_map row_items self.new.rows ≡ Some items → (before : List FeedItem) × (option_map row_items self.old.rows ≡ Some before) }
+        ensures lost { OnErr result (self.new.rows ≡ None) }
+        ensures memory { result ≢ Err FeedError.Failed }
+        ensures count { self.new.given ≡ given_after self.old.given result }
+    {
+        match self.rows.next() {
+            Ok(Some(row)) => {
+                self.given = self.given.saturating_add(1);
+                Ok(Some(FeedItem::Row(RawRow::from_record(row))))
+            }
+            Ok(None) => Ok(None),
+            Err(_) => Err(FeedError::Memory),
+        }
+    }
 }
 
 impl<S: Source + Drop> CsvFeed<S> {
     /// A feed of the rows of this source, of which nothing is taken yet.
     pub fn make(alloc: Global, source: S) -> Result<CsvFeed<S>, Memory>
-        ensures items { IfOk result (λ f. (bytes : List ℕ) → S.left source ≡ Some bytes → csv_left S.left f ≡ Some (csv_items (take most_bytes bytes))) }
+        ensures left { IfOk result (λ f. csv_left S.left f ≡ option_map (λ bytes. csv_items (take most_bytes bytes)) (S.left source)) }
         ensures given { IfOk result (λ f. csv_given f ≡ 0) }
         ensures faults { IfOk result (λ f. csv_faults S.faults f ≡ S.faults source) }
     {
@@ -47,27 +73,30 @@ impl<S: Source + Drop> CsvFeed<S> {
             source,
             seen: Seen::new(),
             taken: Vec::new(alloc),
-            rows: None,
-            given: 0,
+            opened: None,
         })
     }
 
     /// Takes the source, if that isn't done yet.
     fn open(&mut self) -> Result<(), FeedError>
         ensures left { csv_left S.left self.new ≡ csv_left S.left self.old }
+        ensures taking { result ≡ Err FeedError.Failed → csv_given self.old ≡ 0 }
         ensures given { csv_given self.new ≡ csv_given self.old }
         ensures later { csv_faults S.faults self.old ≤ csv_faults S.faults self.new }
         ensures kept { result ≢ Err FeedError.Failed → csv_faults S.faults self.new ≡ csv_faults S.faults self.old }
         ensures cause { result ≡ Err FeedError.Failed → Rose (csv_faults S.faults self.old) (csv_faults S.faults self.new) }
     {
-        if self.rows.is_some() {
+        if self.opened.is_some() {
             return Ok(());
         }
         self.seen = self.seen.and(&self.source);
         take_source(&mut self.source, &mut self.taken)?;
         let mut bytes = replace(&mut self.taken, Vec::new(self.alloc));
-        bytes.truncate(MOST_BYTES);
-        self.rows = Some(Rows::new(self.alloc, bytes));
+        bytes.truncate(MOST_BYTES); // cuts nothing off, but `take_source` speaks of these first bytes alone
+        self.opened = Some(Opened {
+            rows: Rows::new(self.alloc, bytes),
+            given: 0,
+        });
         Ok(())
     }
 }
@@ -75,7 +104,8 @@ impl<S: Source + Drop> CsvFeed<S> {
 impl<S: Source + Drop> Feed for CsvFeed<S> {
     ghost shows = { csv_view S.left S.faults };
 
-    /// The next row. `Failed` comes only while the source is taken.
+    /// The next row. `Failed` comes only while the source is taken, before any row is given; the items that are left are the
+    /// same then, and the next pull goes on with the taking.
     fn next(&mut self) -> Result<Option<FeedItem>, FeedError>
         ensures taken { IfOk result (λ o. (items : List FeedItem) → csv_left S.left self.old ≡ Some items → Gives items o (csv_left S.left self.new)) }
         ensures told { (items : List FeedItem) → csv_left S.left self.new ≡ Some items → (before : List FeedItem) × (csv_left S.left self.old ≡ Some before) }
@@ -84,18 +114,14 @@ impl<S: Source + Drop> Feed for CsvFeed<S> {
         ensures later { csv_faults S.faults self.old ≤ csv_faults S.faults self.new }
         ensures kept { result ≢ Err FeedError.Failed → csv_faults S.faults self.new ≡ csv_faults S.faults self.old }
         ensures cause { result ≡ Err FeedError.Failed → Rose (csv_faults S.faults self.old) (csv_faults S.faults self.new) }
+
+        ensures same { result ≡ Err FeedError.Failed → csv_left S.left self.new ≡ csv_left S.left self.old }
+        ensures taking { result ≡ Err FeedError.Failed → csv_given self.old ≡ 0 }
     {
         self.open()?;
-        let Some(rows) = &mut self.rows else {
+        let Some(opened) = &mut self.opened else {
             return Err(FeedError::Memory);
         };
-        match rows.next() {
-            Ok(Some(row)) => {
-                self.given = self.given.saturating_add(1);
-                Ok(Some(FeedItem::Row(RawRow::from_record(row))))
-            }
-            Ok(None) => Ok(None),
-            Err(_) => Err(FeedError::Memory),
-        }
+        opened.next()
     }
 }

@@ -1,7 +1,6 @@
 //! The rows of a text of CSV in memory, one after the other.
 
-ghost use Rattle.std.specs.Prelude.{◌≡◌, List, ℕ, Option, Some, None, IfOk, OnErr, true, false, length, bytes_eq, option_map, IfSome, ◌&&◌};
-ghost use Rattle.std.specs.Io.Cursor.{cursor_remaining};
+ghost use Rattle.std.specs.Prelude.{◌≡◌, List, ℕ, Some, None, IfOk, OnErr, bytes_eq, option_map, IfSome, ◌&&◌};
 ghost use Rattle.csv.specs.Reading.{strip_bom};
 ghost use Rattle.csv.specs.Records.{fields_of, field_at};
 ghost use Rattle.csv.specs.declared.parser.State.TheVariants as st;

@@ -1,11 +1,9 @@
 //! Fills what takes features from a feed.
 
-ghost use Rattle.std.specs.Prelude.{◌≡◌, ◌≢◌, ◌≤◌, ◌<◌, ◌+◌, ◌↔◌, ◌++◌, ◌∷◌, [], ℕ, List, Option, Some, Ok, Err, true, IfOk, OnOk, OnErr, length, slice_get};
+ghost use Rattle.std.specs.Prelude.{◌≡◌, ◌≢◌, ◌≤◌, ◌<◌, ◌+◌, ◌↔◌, ◌++◌, List, Some, Ok, Err, true, IfOk, OnOk, OnErr, length, slice_get};
 ghost use Rattle.geo_base.specs.declared.refusal.Refused.TheVariants as refused;
 ghost use Rattle.geo_layer.specs.Layer.{LayerView};
 ghost use Rattle.geo_outside.specs.Device.{Rose};
-ghost use Rattle.feature_reader.specs.FeatureView.{FeatureView, zoom_of};
-ghost use Rattle.feature_reader.specs.Table.{Table, put, put_answer};
 ghost use Rattle.feature_reader.specs.declared.feature.FeatureFault.{FeatureFault};
 ghost use Rattle.feature_feed.specs.Feed.{Gives, given_after};
 ghost use Rattle.feature_feed.specs.Drain.{feature_of_item, outcome_of, after_item, after_items, with_outcome, Gave, IsLoad};
@@ -78,6 +76,7 @@ fn take_item<T: Taker>(
 ) -> Result<Outcome, Memory>
     requires { T.takes into.old place layer.now.zoom ≡ true }
     ensures layers { T.takes into.new ≡ T.takes into.old }
+    ensures rest { T.with_table into.new ≡ T.with_table into.old }
     ensures outcome { IfOk result (λ o. o ≡ outcome_of layer.now langs.now place (T.table into.old) item.now) }
     ensures table { OnOk result (T.table into.new ≡ after_item layer.now langs.now place (T.table into.old) item.now) }
     ensures memory { OnErr result (T.table into.new ≡ T.table into.old) }
@@ -158,6 +157,7 @@ fn fill<T: Taker>(
 ) -> Result<LoadReport, Memory>
     requires { T.takes into.old place layer.now.zoom ≡ true }
     ensures layers { T.takes into.new ≡ T.takes into.old }
+    ensures rest { T.with_table into.new ≡ T.with_table into.old }
     ensures load { IfOk result (λ r. (gave : List FeedItem) × Gave (shows feed.old).left gave (shows feed.new).left × IsLoad layer.now langs.now place (T.table into.old) (T.table into.new) r gave) }
     ensures count { IfOk result (λ r. (shows feed.new).given < 18446744073709551615 → (shows feed.new).given ≡ (shows feed.old).given + r.read) }
     ensures ended { IfOk result (λ r. r.end ≡ at.End → (r.read < 1048576) × ((items : List FeedItem) → (shows feed.old).left ≡ Some items → r.read ≡ length items)) }
@@ -165,7 +165,8 @@ fn fill<T: Taker>(
     ensures limit { IfOk result (λ r. (r.end ≡ at.Limit) ↔ (r.read ≡ 1048576)) }
     ensures later { (shows feed.old).faults ≤ (shows feed.new).faults }
     ensures kept { IfOk result (λ r. r.end ≢ at.Fault → (shows feed.new).faults ≡ (shows feed.old).faults) }
-    ensures memory { OnErr result ((gave more : List FeedItem) × Gave (shows feed.old).left (gave ++ more) (shows feed.new).left × (T.table into.new ≡ after_items layer.now langs.now place (T.table into.old) gave)) }
+    ensures memory_kept { OnErr result ((shows feed.new).faults ≡ (shows feed.old).faults) }
+    ensures memory { OnErr result ((gave more : List FeedItem) × (length more ≤ 1) × Gave (shows feed.old).left (gave ++ more) (shows feed.new).left × (T.table into.new ≡ after_items layer.now langs.now place (T.table into.old) gave)) }
 {
     let mut reader = FeatureReader::new(alloc);
     let mut report = LoadReport {
@@ -196,7 +197,7 @@ fn fill<T: Taker>(
 /// stand for no feature, how many features were refused for a limit, and how it ended.
 ///
 /// After a fault the items given before stand. After want of memory so do those given before the one for which there was
-/// none. The feed is pulled no more after either.
+/// none, at the most one item was given besides, and no pull failed. The feed is pulled no more after either.
 pub fn drain<T: Taker>(
     alloc: Global,
     feed: &mut Box<dyn Feed>,
@@ -207,6 +208,7 @@ pub fn drain<T: Taker>(
     requires within { layer < length head.now.layers }
     requires takes { (l : LayerView) → slice_get head.now.layers layer ≡ Some l → T.takes into.old layer l.zoom ≡ true }
     ensures layers { T.takes into.new ≡ T.takes into.old }
+    ensures rest { T.with_table into.new ≡ T.with_table into.old }
     ensures load { (l : LayerView) → slice_get head.now.layers layer ≡ Some l → IfOk result (λ r. (gave : List FeedItem) × Gave (shows feed.old).left gave (shows feed.new).left × IsLoad l head.now.langs layer (T.table into.old) (T.table into.new) r gave) }
     ensures count { IfOk result (λ r. (shows feed.new).given < 18446744073709551615 → (shows feed.new).given ≡ (shows feed.old).given + r.read) }
     ensures ended { IfOk result (λ r. r.end ≡ at.End → (r.read < 1048576) × ((items : List FeedItem) → (shows feed.old).left ≡ Some items → r.read ≡ length items)) }
@@ -214,7 +216,8 @@ pub fn drain<T: Taker>(
     ensures limit { IfOk result (λ r. (r.end ≡ at.Limit) ↔ (r.read ≡ 1048576)) }
     ensures later { (shows feed.old).faults ≤ (shows feed.new).faults }
     ensures kept { IfOk result (λ r. r.end ≢ at.Fault → (shows feed.new).faults ≡ (shows feed.old).faults) }
-    ensures memory { (l : LayerView) → slice_get head.now.layers layer ≡ Some l → OnErr result ((gave more : List FeedItem) × Gave (shows feed.old).left (gave ++ more) (shows feed.new).left × (T.table into.new ≡ after_items l head.now.langs layer (T.table into.old) gave)) }
+    ensures memory_kept { OnErr result ((shows feed.new).faults ≡ (shows feed.old).faults) }
+    ensures memory { (l : LayerView) → slice_get head.now.layers layer ≡ Some l → OnErr result ((gave more : List FeedItem) × (length more ≤ 1) × Gave (shows feed.old).left (gave ++ more) (shows feed.new).left × (T.table into.new ≡ after_items l head.now.langs layer (T.table into.old) gave)) }
 {
     fill(
         alloc,

@@ -1,11 +1,14 @@
 //! Feeds, their items, and what a pull may answer.
 
-ghost use Rattle.std.specs.Prelude.{◌≡◌, ◌≢◌, ◌≤◌, ℕ, List, Option, Some, Err, IfOk, OnErr};
+ghost use Rattle.std.specs.Prelude.{◌≡◌, ◌≢◌, ◌≤◌, List, Some, Err, IfOk, OnErr};
 ghost use Rattle.geo_outside.specs.Device.{Rose};
 ghost use Rattle.feature_feed.specs.Feed.{FeedView, Gives, given_after};
 ghost use Rattle.feature_feed.specs.declared.feed.FeedItem.{FeedItem};
 
 use feature_reader::raw::{RawRow, RawText};
+
+/// The most bytes of a source that a feed of it reads.
+pub(crate) const MOST_BYTES: usize = 268_435_456;
 
 /// What may stand for a feature.
 #[derive(Drop)]

@@ -1,10 +1,10 @@
 //! A feed of lines of JSON.
 
-ghost use Rattle.std.specs.Prelude.{◌≡◌, ◌≢◌, ◌≤◌, List, Option, Some, Err, IfOk, OnErr, take};
+ghost use Rattle.std.specs.Prelude.{◌≡◌, ◌≢◌, ◌≤◌, List, Some, Err, IfOk, OnErr, take};
 ghost use Rattle.std.specs.Option.{option_map};
 ghost use Rattle.geo_outside.specs.Device.{Rose};
-ghost use Rattle.feature_feed.specs.Feed.{Gives, given_after};
-ghost use Rattle.feature_feed.specs.JsonLines.{json_items, byte_limit};
+ghost use Rattle.feature_feed.specs.Feed.{Gives, given_after, most_bytes};
+ghost use Rattle.feature_feed.specs.JsonLines.{json_items};
 ghost use Rattle.feature_feed.specs.declared.feed.FeedItem.{FeedItem};
 
 use crate::feed::{Feed, FeedError, FeedItem};
@@ -39,7 +39,7 @@ impl<S: Source> Model for JsonLinesFeed<S> {
 impl<S: Source + Drop> JsonLinesFeed<S> {
     /// A feed of what the source has left.
     pub fn make(alloc: Global, source: S) -> Result<JsonLinesFeed<S>, Memory>
-        ensures left { IfOk result (λ f. f.left ≡ option_map (λ bytes. json_items (take byte_limit bytes)) (S.left source)) }
+        ensures left { IfOk result (λ f. f.left ≡ option_map (λ bytes. json_items (take most_bytes bytes)) (S.left source)) }
         ensures given { IfOk result (λ f. f.given ≡ 0) }
         ensures faults { IfOk result (λ f. f.faults ≡ S.faults source) }
     {

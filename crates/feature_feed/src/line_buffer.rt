@@ -1,6 +1,6 @@
 //! Bytes that come in blocks, and the lines in them.
 
-ghost use Rattle.std.specs.Prelude.{◌≡◌, ◌≢◌, ◌≤◌, ◌<◌, ◌++◌, ◌∷◌, ◌+◌, ◌-◌, ◌==◌, [], ℕ, List, Option, Some, None, Ok, Err, IfOk, OnOk, OnErr, IsErr, MatchOption, drop, length, position, take};
+ghost use Rattle.std.specs.Prelude.{◌≡◌, ◌≢◌, ◌≤◌, ◌<◌, ◌++◌, ◌∷◌, ◌+◌, ◌==◌, [], ℕ, List, Some, Err, IfOk, OnOk, OnErr, IsErr, MatchOption, drop, length, position, take};
 ghost use Rattle.std.specs.Str.Lines.{strip_carriage_return};
 ghost use Rattle.std.specs.Io.KnownBytes.{Consumes, IsAtEnd, Keeps};
 ghost use Rattle.geo_outside.specs.Device.{Rose};

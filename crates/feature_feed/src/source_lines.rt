@@ -1,19 +1,17 @@
 //! The lines of a source, each taken when it has come.
 
-ghost use Rattle.std.specs.Prelude.{◌≡◌, ◌≢◌, ◌≤◌, ◌<◌, ◌+◌, [], Ok, Err, IfOk, IfSome, OnOk, OnErr, MatchOption, length};
+ghost use Rattle.std.specs.Prelude.{◌≡◌, ◌≢◌, ◌≤◌, ◌<◌, ◌+◌, [], Err, IfOk, IfSome, OnOk, OnErr, MatchOption, length};
 ghost use Rattle.geo_outside.specs.Device.{Rose};
-ghost use Rattle.feature_feed.specs.JsonLines.{NoFeed, byte_limit, bytes_left, lines_left, items_left, onto, IsNoneLeft};
+ghost use Rattle.feature_feed.specs.Feed.{most_bytes};
+ghost use Rattle.feature_feed.specs.JsonLines.{NoFeed, bytes_left, lines_left, items_left, onto, IsNoneLeft};
 ghost use Rattle.feature_feed.specs.declared.feed.FeedItem.TheVariants as item;
 
-use crate::feed::FeedError;
+use crate::feed::{FeedError, MOST_BYTES};
 use crate::line_buffer::LineBuffer;
 use crate::steady_source::SteadySource;
 use geo_base::refusal::Memory;
 use geo_outside::device::Source;
 use std::alloc::Global;
-
-/// The most bytes of a source that are read.
-const BYTE_LIMIT: usize = 268_435_456;
 
 /// A source, what has come of it and wasn't taken yet, and how many bytes may be read yet.
 #[derive(Drop)]
@@ -36,7 +34,7 @@ impl<S: Source + Drop> SourceLines<S> {
     /// The lines of a source's first 268,435,456 bytes.
     pub fn new(alloc: Global, source: S) -> Result<SourceLines<S>, Memory>
         ensures buffer { IfOk result (λ l. l.buffer ≡ []) }
-        ensures room { IfOk result (λ l. l.room ≡ byte_limit) }
+        ensures room { IfOk result (λ l. l.room ≡ most_bytes) }
         ensures left { IfOk result (λ l. l.source.left ≡ S.left source) }
         ensures faults { IfOk result (λ l. l.source.faults ≡ S.faults source) }
     {
@@ -44,7 +42,7 @@ impl<S: Source + Drop> SourceLines<S> {
         Ok(SourceLines {
             source: SteadySource::new(source),
             buffer,
-            room: BYTE_LIMIT,
+            room: MOST_BYTES,
         })
     }
 

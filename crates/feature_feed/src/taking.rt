@@ -3,14 +3,11 @@
 ghost use Rattle.std.specs.Prelude.{◌≡◌, ◌≢◌, ◌≤◌, ◌<◌, ◌+◌, ◌++◌, ℕ, List, Some, Err, IfOk, OnOk, length, take};
 ghost use Rattle.std.specs.Io.KnownBytes.{IsAtEnd};
 ghost use Rattle.geo_outside.specs.Device.{Rose};
-ghost use Rattle.feature_feed.specs.Csv.{most_bytes};
+ghost use Rattle.feature_feed.specs.Feed.{most_bytes};
 ghost use Rattle.feature_feed.specs.Taking.{Moved};
 
-use crate::feed::FeedError;
+use crate::feed::{FeedError, MOST_BYTES};
 use geo_outside::device::Source;
-
-/// The most bytes that are taken of a source.
-pub(crate) const MOST_BYTES: usize = 268_435_456;
 
 /// How many bytes a read asks for at most.
 const BLOCK: usize = 65_536;

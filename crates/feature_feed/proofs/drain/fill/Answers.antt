@@ -25,7 +25,7 @@ returns-in-Err-Memory-clause-memory g c =
     let now = ((goal.Feed-dyn g (c.loop.feed.vtable, c.loop.feed.value)).shows c.loop.feed.value).left in
     let after = ((goal.Feed-dyn g (c.pull.new.feed.vtable, c.pull.new.feed.value)).shows c.pull.new.feed.value).left in
     let same : Gave before gave after = gave_same before now after gave filling.tells filling.rest c.in-Err-Memory.ensures.unchanged in
-    (gave, [], subst (λ (l : List FeedItem). Gave before l after) (sym (append-nil gave)) same, filling.load.table)
+    (gave, [], omega arith, subst (λ (l : List FeedItem). Gave before l after) (sym (append-nil gave)) same, filling.load.table)
 
 pub returns-in_default-clause-memory : goal.returns-in_default-clause-memory
 returns-in_default-clause-memory g c =
@@ -35,7 +35,7 @@ returns-in_default-clause-memory g c =
     let now = ((goal.Feed-dyn g (c.loop.feed.vtable, c.loop.feed.value)).shows c.loop.feed.value).left in
     let after = ((goal.Feed-dyn g (c.pull.new.feed.vtable, c.pull.new.feed.value)).shows c.pull.new.feed.value).left in
     let given : Gave before (gave ++ c.in-Ok-Some.item ∷ []) after = gave_one before now after gave c.in-Ok-Some.item filling.tells filling.rest (rw c.in-Ok-Some.field-0-is at c.in-Ok-Some.ensures.taken) c.pull.ensures.told in
-    (gave, c.in-Ok-Some.item ∷ [], given, c.in_default.ensures.memory ∙ filling.load.table)
+    (gave, c.in-Ok-Some.item ∷ [], omega arith, given, c.in_default.ensures.memory ∙ filling.load.table)
 
 pub loop-preserved : goal.loop-preserved
 loop-preserved g c =
@@ -52,6 +52,7 @@ loop-preserved g c =
       faults = c.in-Ok-Some.ensures.kept (λ e. absurd (cc e)) ∙ c.loop.invariant.faults;
       end = ap (λ (r : LoadReport). r.end) c.with_outcome-report.ensures ∙ end_more c.loop.report c.in-Ok.outcome ∙ c.loop.invariant.end;
       layers = c.take_item-taken.ensures.layers ∙ c.loop.invariant.layers;
+      rest = c.take_item-taken.ensures.rest ∙ c.loop.invariant.rest;
       read = ap (λ (r : LoadReport). r.read) c.with_outcome-report.ensures ∙ read_more c.args.layer.now c.args.langs.now c.args.place c.loop.report c.in-Ok.outcome ∙ ap (λ n. n + 1) c.loop.invariant.read;
       bad = subst (λ (r : LoadReport). r.bad ≤ r.read) (sym c.with_outcome-report.ensures) (bad_within c.loop.report c.in-Ok.outcome c.loop.invariant.bad);
       full = subst (λ (r : LoadReport). r.full ≤ r.read) (sym c.with_outcome-report.ensures) (full_within c.loop.report c.in-Ok.outcome c.loop.invariant.full);

@@ -15,6 +15,7 @@ invariant-loop g l =
       faults : (now.shows l.feed.value).faults ≡ (before.shows l.fn.feed.value).faults;
       end : l.report.end ≡ at.Limit;
       layers : g.T.Taker.takes l.into ≡ g.T.Taker.takes l.fn.into;
+      rest : g.T.Taker.with_table l.into ≡ g.T.Taker.with_table l.fn.into;
       read : l.report.read ≡ l.counter;
       bad : l.report.bad ≤ l.report.read;
       full : l.report.full ≤ l.report.read;

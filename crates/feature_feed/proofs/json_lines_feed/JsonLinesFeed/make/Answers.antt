@@ -1,8 +1,8 @@
 use Rattle.feature_feed.proofs.LinesLeft.{from_start}
-use Rattle.feature_feed.specs.JsonLines.{byte_limit}
+use Rattle.feature_feed.specs.Feed.{most_bytes}
 use Rattle.feature_feed.proofs.json_lines_feed.JsonLinesFeed.make.Goals as goal
 
 pub returns-clause-left : goal.returns-clause-left
 returns-clause-left g c =
     let made = c.in_ok-lines.ensures in
-    from_start c.in_ok-lines.lines.buffer c.in_ok-lines.lines.room byte_limit c.in_ok-lines.lines.source.left (g.S.Source.left c.args.source) made.buffer made.room made.left
+    from_start c.in_ok-lines.lines.buffer c.in_ok-lines.lines.room most_bytes c.in_ok-lines.lines.source.left (g.S.Source.left c.args.source) made.buffer made.room made.left
