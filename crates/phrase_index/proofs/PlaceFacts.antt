@@ -1,5 +1,5 @@
 -- What places in a list of heads say of the ends of ranges of their texts.
-use Rattle.std.proofs.Common.{◌≡◌, ◌∙◌, ℕ, zero, suc, ◌<◌, ◌≤◌, nat_lt, Bool, true, false, ◌&&◌, ◌||◌, inl, inr, ⊎_elim, List, [], length, take, get_or, map, sym, ap, subst, subst₂, arith}
+use Rattle.std.proofs.Common.{◌≡◌, ◌∙◌, ℕ, zero, suc, ◌<◌, ◌≤◌, Bool, true, false, ◌&&◌, ◌||◌, inl, inr, ⊎_elim, List, [], length, take, get_or, map, sym, ap, subst, subst₂, arith}
 use Rattle.std.specs.Prelude.{All, Contains}
 use Rattle.std.specs.Str.{IsUtf8}
 use Rattle.std.specs.List.Sorted.{IsNonDecreasing}
@@ -7,17 +7,13 @@ use Rattle.std.specs.Ordering.{is_lt, ordering_reverse}
 use Rattle.std.specs.declared.cmp.Ordering.TheVariants.{Less, Greater}
 use Rattle.std.proofs.lemmas.Cmp.{nat_list_cmp_total}
 use Rattle.std.proofs.lemmas.Bool.{cases_Bool, cases_lt, cases_eq}
-use Rattle.std.proofs.lemmas.Bool.Decides.{nat_tests}
 use Rattle.std.proofs.lemmas.List.{get_or-map, get_or_default, take_all, length-map}
 use Rattle.std.proofs.lemmas.Slice.Eq.{bytes_eq-Decides}
 use Rattle.phrase_index.specs.Phrases.{text_cmp, Rise, is_below, begins_with, number_of}
 use Rattle.phrase_index.specs.Heads.{front, head_of, end_of}
 use Rattle.phrase_index.proofs.ByteFacts.{AreBytes, text_bytes}
-use Rattle.phrase_index.proofs.RangeFacts.{is_less, isnt_less, below_is, end_is, end_within, number_is}
+use Rattle.phrase_index.proofs.RangeFacts.{is_less, isnt_less, below_is, end_is, number_is}
 use Rattle.phrase_index.proofs.HeadFacts.{front_cmp, begins_le, front_left}
-
-less_is : (m n : ℕ) → m < n → nat_lt m n ≡ true
-less_is m n e = grind (arith, nat_tests)
 
 -- what stands for the missing bytes of a run at the end that is searched
 abbrev pub fill_of : Bool → ℕ
@@ -54,62 +50,58 @@ module _ (texts : List (List ℕ)) (run : List ℕ) (rise : Rise texts) (utf8 : 
   head_at : (n : ℕ) → n < length texts → get_or (map head_of texts) n 0 ≡ head_of (get_or texts n [])
   head_at n less = get_or-map head_of texts n [] 0 less
 
-  pub border_low : (place : ℕ) → place ≤ length texts → ((n : ℕ) → n < place → get_or (map head_of texts) n 0 < head_of run) → place ≤ number_of texts run
-  border_low zero within before = omega arith
-  border_low (suc p) within before =
-      let head : head_of (get_or texts p []) < head_of run = subst (λ h. h < head_of run) (head_at p (omega (arith, within))) (before p (omega arith)) in
+  pub border_low : (from place : ℕ) → from ≤ number_of texts run → place ≤ length texts → ((n : ℕ) → from ≤ n → n < place → get_or (map head_of texts) n 0 < head_of run) → place ≤ number_of texts run
+  border_low from zero known within before = omega arith
+  border_low from (suc p) known within before =
+      ⊎_elim
+      (λ (less : p < from). omega (arith, less, known))
+      (λ (le : from ≤ p).
+      let head : head_of (get_or texts p []) < head_of run = subst (λ h. h < head_of run) (head_at p (omega (arith, within))) (before p le (omega arith)) in
       let below : is_below run (get_or texts p []) ≡ true = ap is_lt (front_cmp 8 (get_or texts p []) run (bytes p [] (omega (arith, within))) small head) in
       let less = is_less p (number_of texts run) (sym (below_is run texts rise p [] (omega (arith, within))) ∙ below) in
-      omega (arith, less)
+      omega (arith, less))
+      (cases_lt p from)
 
-  -- from this place on each head is greater
-  abbrev IsPast : Bool → ℕ → Type 0
-  IsPast through place = (n : ℕ) → place ≤ n → n < length texts → front (fill_of through) 8 run < get_or (map head_of texts) n 0
+  -- from the place on each head before another place is greater
+  abbrev IsPast : Bool → ℕ → ℕ → Type 0
+  IsPast through place to = (n : ℕ) → place ≤ n → n < to → front (fill_of through) 8 run < get_or (map head_of texts) n 0
 
-  pub end_high : (through : Bool) (place : ℕ) → IsPast through place → end_of through texts run ≤ place
-  end_high through place behind =
+  pub end_high : (through : Bool) (place to : ℕ) → to ≤ length texts → end_of through texts run ≤ to → IsPast through place to → end_of through texts run ≤ place
+  end_high through place to within known behind =
       ⊎_elim
-      (λ (less : place < length texts).
-      let head : front (fill_of through) 8 run < head_of (get_or texts place []) = subst (λ h. front (fill_of through) 8 run < h) (head_at place less) (behind place (omega arith) less) in
-      isnt_less place (end_of through texts run) (sym (end_is through run texts rise place [] less) ∙ past_end through run (get_or texts place []) small (bytes place [] less) head))
-      (λ (all : length texts ≤ place). omega (arith, all, end_within through run texts rise))
-      (cases_lt place (length texts))
-
-  -- the heads of the texts before the run
-  pub before_le : (n : ℕ) → n < number_of texts run → get_or (map head_of texts) n 0 ≤ front 255 8 run
-  before_le n less =
-      let within : n < length texts = omega (arith, less, end_within false run texts rise) in
-      let below : is_below run (get_or texts n []) ≡ true = below_is run texts rise n [] within ∙ less_is n (number_of texts run) less in
-      subst (λ h. h ≤ front 255 8 run) (sym (head_at n within))
-      (⊎_elim
-      (λ (more : front 255 8 run < head_of (get_or texts n [])).
-      let bad : true ≡ false = ap (λ b. b || begins_with (get_or texts n []) run) (sym below) ∙ past_end true run (get_or texts n []) small (bytes n [] within) more in
-      absurd (cc bad))
-      (λ (le : head_of (get_or texts n []) ≤ front 255 8 run). le)
-      (cases_lt (front 255 8 run) (head_of (get_or texts n []))))
+      (λ (less : place < to).
+      let short : place < length texts = omega (arith, less, within) in
+      let head : front (fill_of through) 8 run < head_of (get_or texts place []) = subst (λ h. front (fill_of through) 8 run < h) (head_at place short) (behind place (omega arith) less) in
+      isnt_less place (end_of through texts run) (sym (end_is through run texts rise place [] short) ∙ past_end through run (get_or texts place []) small (bytes place [] short) head))
+      (λ (all : to ≤ place). omega (arith, all, known))
+      (cases_lt place to)
 
   -- where the run is there, its number is below such a place
-  pub number_high : (place : ℕ) → IsPast false place → Contains texts run → number_of texts run < place
-  number_high place behind has =
+  pub number_high : (place to : ℕ) → IsPast false place to → Contains texts run → number_of texts run < to → number_of texts run < place
+  number_high place to behind has known =
       ⊎_elim
       (λ (less : number_of texts run < place). less)
       (λ (all : place ≤ number_of texts run).
       let at : has.0 ≡ number_of texts run = number_is texts run rise has.0 run has.1 has.2 in
-      let head : head_of run < head_of (get_or texts has.0 []) = subst (λ h. head_of run < h) (head_at has.0 has.1) (behind has.0 (omega (arith, all, at)) has.1) in
+      let head : head_of run < head_of (get_or texts has.0 []) = subst (λ h. head_of run < h) (head_at has.0 has.1) (behind has.0 (omega (arith, all, at)) (omega (arith, at, known))) in
       absurd (omega (arith, head, ap head_of (get_or_default texts has.0 [] run has.1 ∙ has.2))))
       (cases_lt (number_of texts run) place)
 
   -- where the head has all of the run, such a place is the end of the texts that begin with it
-  pub short_end : (place : ℕ) → length run ≤ 8 → place ≤ length texts → ((n : ℕ) → n < place → get_or (map head_of texts) n 0 ≤ front 255 8 run) → IsPast true place → place ≡ end_of true texts run
-  short_end place short within before behind = omega (arith, end_high true place behind, low place within before)
+  pub short_end : (from place to : ℕ) → length run ≤ 8 → from ≤ end_of true texts run → place ≤ to → to ≤ length texts → end_of true texts run ≤ to → ((n : ℕ) → from ≤ n → n < place → get_or (map head_of texts) n 0 ≤ front 255 8 run) → IsPast true place to → place ≡ end_of true texts run
+  short_end from place to short low high within known before behind = omega (arith, end_high true place to within known behind, least place (omega (arith, high, within)) before)
     where
-      low : (p : ℕ) → p ≤ length texts → ((n : ℕ) → n < p → get_or (map head_of texts) n 0 ≤ front 255 8 run) → p ≤ end_of true texts run
-      low zero within before = omega arith
-      low (suc p) within before =
-          let head : head_of (get_or texts p []) ≤ front 255 8 run = subst (λ h. h ≤ front 255 8 run) (head_at p (omega (arith, within))) (before p (omega arith)) in
-          let left = front_left 8 run (get_or texts p []) short small (bytes p [] (omega (arith, within))) head in
-          let less = is_less p (end_of true texts run) (sym (end_is true run texts rise p [] (omega (arith, within))) ∙ left) in
-          omega (arith, less)
+      least : (p : ℕ) → p ≤ length texts → ((n : ℕ) → from ≤ n → n < p → get_or (map head_of texts) n 0 ≤ front 255 8 run) → p ≤ end_of true texts run
+      least zero short before = omega arith
+      least (suc p) inside before =
+          ⊎_elim
+          (λ (less : p < from). omega (arith, less, low))
+          (λ (le : from ≤ p).
+          let head : head_of (get_or texts p []) ≤ front 255 8 run = subst (λ h. h ≤ front 255 8 run) (head_at p (omega (arith, inside))) (before p le (omega arith)) in
+          let left = front_left 8 run (get_or texts p []) short small (bytes p [] (omega (arith, inside))) head in
+          let less = is_less p (end_of true texts run) (sym (end_is true run texts rise p [] (omega (arith, inside))) ∙ left) in
+          omega (arith, less))
+          (cases_lt p from)
 
 -- the heads of rising texts never fall
 pub heads_rise : (texts : List (List ℕ)) → Rise texts → All IsUtf8 texts → IsNonDecreasing (map head_of texts)

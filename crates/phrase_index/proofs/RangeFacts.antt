@@ -25,9 +25,12 @@ is_less m n e = grind (arith, nat_tests)
 pub isnt_less : (m n : ℕ) → nat_lt m n ≡ false → n ≤ m
 isnt_less m n e = grind (arith, nat_tests)
 
+pub less_is : (m n : ℕ) → m < n → nat_lt m n ≡ true
+less_is m n e = grind (arith, nat_tests)
+
 -- ---- the texts before the run
 
-less_from : (o : Ordering) → is_lt o ≡ true → o ≡ Less
+pub less_from : (o : Ordering) → is_lt o ≡ true → o ≡ Less
 less_from Less e = refl
 less_from Equal e = cc
 less_from Greater e = cc
@@ -99,7 +102,7 @@ exact_front run = record {
     same : (t : List ℕ) → t ≡ run → is_below run t ≡ false
     same t e = ap is_lt (ap (λ u. text_cmp u run) e ∙ tied_itself nat_list_cmp_total run)
 
-begins_apart : (run t : List ℕ) → begins_with t run ≡ true → is_below run t ≡ false
+pub begins_apart : (run t : List ℕ) → begins_with t run ≡ true → is_below run t ≡ false
 begins_apart [] [] is = refl
 begins_apart [] (b ∷ bs) is = refl
 begins_apart (r ∷ rs) [] is = cc
@@ -110,7 +113,7 @@ begins_apart (r ∷ rs) (b ∷ bs) is =
     tie : (m n : ℕ) → (m == n) ≡ true → nat_cmp m n ≡ Equal
     tie m n e = grind (arith, nat_tests)
 
-begins_first : (run s t : List ℕ) → is_below run s ≡ false → Comes s t → begins_with t run ≡ true → begins_with s run ≡ true
+pub begins_first : (run s t : List ℕ) → is_below run s ≡ false → Comes s t → begins_with t run ≡ true → begins_with s run ≡ true
 begins_first [] s t above less is = refl
 begins_first (r ∷ rs) [] t above less is = let bad : true ≡ false = above in absurd (cc bad)
 begins_first (r ∷ rs) (a ∷ aa) [] above less is = let bad : false ≡ true = is in absurd (cc bad)

@@ -1,5 +1,5 @@
 -- Phrases as a list of texts that rises byte by byte, and the numbers of those that a run of tokens matches. The first phrase has the number 0.
-use Rattle.std.specs.Prelude.{◌≡◌, ℕ, ◌+◌, ◌<◌, ◌≤◌, Bool, ◌&&◌, nat_le, nat_lt, List, [], ◌∷◌, length, take, get_or, bytes_eq, codes, AllPairs}
+use Rattle.std.specs.Prelude.{◌≡◌, ℕ, ◌+◌, ◌<◌, ◌≤◌, Bool, true, ◌&&◌, nat_le, nat_lt, List, [], ◌∷◌, length, take, get_or, bytes_eq, codes, AllPairs}
 use Rattle.std.specs.List.{count_by}
 use Rattle.std.specs.Ordering.{nat_cmp, is_lt}
 use Rattle.std.specs.Cmp.Lexicographic.{slice_cmp}
@@ -47,6 +47,10 @@ pub record IsRange (passes : List ℕ → Bool) (texts : List (List ℕ)) (range
   pub ordered : range.0 ≤ range.1
   pub within : range.1 ≤ length texts
   pub at : (n : ℕ) (d : List ℕ) → n < length texts → passes (get_or texts n d) ≡ lies_in range n
+
+-- the range is that of the texts which begin with a front of the run
+abbrev pub IsRangeOfFront : List (List ℕ) → List ℕ → ℕ × ℕ → Type 0
+IsRangeOfFront texts run range = (front : List ℕ) × (begins_with run front ≡ true) × (range ≡ prefix_range texts front)
 
 -- three names that serve as an example
 abbrev pub three_names : List (List ℕ)

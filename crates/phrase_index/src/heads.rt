@@ -25,18 +25,16 @@ pub(crate) fn front(text: &[u8], fill: u8) -> u64
     number
 }
 
-/// Where those of the numbers end that are below the key: a place from `low` to `high`. Three are compared at a time, and
+/// Where those of the numbers from one place up to another end that are below the key. Three are compared at a time, and
 /// the answers added, so that nothing is decided by a jump.
-pub(crate) fn border(numbers: &[u64], low: usize, high: usize, key: u64) -> usize
+pub(crate) fn border(numbers: &[u64], from: usize, to: usize, key: u64) -> usize
     requires rise { IsNonDecreasing numbers.now }
-    requires ordered { low ≤ high }
-    requires within { high ≤ length numbers.now }
-    requires before { (n : ℕ) → n < low → get_or numbers.now n 0 < key }
-    requires behind { (n : ℕ) → high ≤ n → n < length numbers.now → key ≤ get_or numbers.now n 0 }
-    ensures { IsBorder numbers.now key result }
+    requires ordered { from ≤ to }
+    requires within { to ≤ length numbers.now }
+    ensures { IsBorder numbers.now from to key result }
 {
-    let mut low = low;
-    let mut len = high - low;
+    let mut low = from;
+    let mut len = to - from;
     'quarter: while len > 3 {
         let quarter = len / 4;
         let passed = usize::from(numbers[low + quarter] < key)
@@ -52,35 +50,36 @@ pub(crate) fn border(numbers: &[u64], low: usize, high: usize, key: u64) -> usiz
     low
 }
 
-/// A place not before `low` from which on each number is greater than `last`, found in growing steps.
-pub(crate) fn past(numbers: &[u64], low: usize, last: u64) -> usize
+/// A place between two from which on each number before the second is greater than `last`, found in growing steps.
+pub(crate) fn past(numbers: &[u64], from: usize, to: usize, last: u64) -> usize
     requires rise { IsNonDecreasing numbers.now }
-    requires within { low ≤ length numbers.now }
-    ensures ordered { low ≤ result }
-    ensures within { result ≤ length numbers.now }
-    ensures behind { (n : ℕ) → result ≤ n → n < length numbers.now → last < get_or numbers.now n 0 }
+    requires ordered { from ≤ to }
+    requires within { to ≤ length numbers.now }
+    ensures low { from ≤ result }
+    ensures high { result ≤ to }
+    ensures behind { (n : ℕ) → result ≤ n → n < to → last < get_or numbers.now n 0 }
 {
-    let mut place = low;
+    let mut place = from;
     let mut step = 1;
-    'step: while place < numbers.len() && numbers[place] <= last {
+    'step: while place < to && numbers[place] <= last {
         place += step;
         step *= 2;
     }
-    place.min(numbers.len())
+    place.min(to)
 }
 
-/// Where those of the numbers end that are at most `last`, among which are all before `low`.
-pub(crate) fn up_to(numbers: &[u64], low: usize, last: u64) -> usize
+/// Where those of the numbers from one place up to another end that are at most `last`.
+pub(crate) fn up_to(numbers: &[u64], from: usize, to: usize, last: u64) -> usize
     requires rise { IsNonDecreasing numbers.now }
-    requires within { low ≤ length numbers.now }
-    requires before { (n : ℕ) → n < low → get_or numbers.now n 0 ≤ last }
-    ensures within { result ≤ length numbers.now }
-    ensures before { (n : ℕ) → n < result → get_or numbers.now n 0 ≤ last }
-    ensures behind { (n : ℕ) → result ≤ n → n < length numbers.now → last < get_or numbers.now n 0 }
+    requires ordered { from ≤ to }
+    requires within { to ≤ length numbers.now }
+    ensures high { result ≤ to }
+    ensures before { (n : ℕ) → from ≤ n → n < result → get_or numbers.now n 0 ≤ last }
+    ensures behind { (n : ℕ) → result ≤ n → n < to → last < get_or numbers.now n 0 }
 {
-    let high = past(numbers, low, last);
+    let high = past(numbers, from, to, last);
     match last.checked_add(1) {
-        Some(key) => border(numbers, low, high, key),
+        Some(key) => border(numbers, from, high, key),
         None => high,
     }
 }

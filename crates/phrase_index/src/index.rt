@@ -1,15 +1,17 @@
 //! Phrases in one list of bytes, found by halving.
 
-ghost use Rattle.std.specs.Prelude.{◌≡◌, ℕ, ◌<◌, ◌≤◌, ◌&&◌, ◌||◌, List, [], length, map, get_or, slice_get, slice_range, Some, IfOk, IfSome, IfNone, Contains, All};
+ghost use Rattle.std.specs.Prelude.{◌≡◌, ℕ, ◌<◌, ◌≤◌, ◌+◌, ◌↔◌, ◌&&◌, ◌||◌, cond, IsTrue, List, [], length, map, get_or, slice_get, slice_range, Some, IfOk, IfSome, IfNone, Contains, All};
 ghost use Rattle.std.specs.List.Sorted.{IsNonDecreasing};
 ghost use Rattle.std.specs.Str.{IsUtf8};
-ghost use Rattle.phrase_index.specs.Phrases.{Rise, is_below, number_of, begins_with, prefix_range, IsRange};
+ghost use Rattle.phrase_index.specs.Phrases.{Rise, is_below, number_of, begins_with, exact_range, prefix_range, IsRange, IsRangeOfFront};
 ghost use Rattle.phrase_index.specs.Heads.{head_of, end_of};
 ghost use Rattle.phrase_index.specs.Kept.{parts, begin_of, Reach, IsKept};
 
+use crate::has_text::HasText;
 use crate::heads::{border, front, past, up_to};
 use geo_base::refusal::Memory;
 use geo_text::text::Text;
+use std::alloc::Global;
 use std::cmp::Ordering;
 use std::marker::Model;
 use std::ops::Range;
@@ -42,12 +44,29 @@ impl PhraseIndex {
         requires few { length list.items < 4294967296 }
         ensures { IfOk result (λ index. index ≡ list.items) }
     {
-        let alloc = *list.allocator();
-        let mut bytes = Vec::with_capacity(alloc, total_len(&list))?;
+        PhraseIndex::of_texts(*list.allocator(), &list)
+    }
+
+    /// The index of phrases that lie elsewhere, as `build` makes it.
+    pub fn of(alloc: Global, list: &[&str]) -> Result<PhraseIndex, Memory>
+        requires rise { Rise (map (λ text. text.now) list.now) }
+        requires few { length list.now < 4294967296 }
+        ensures { IfOk result (λ index. index ≡ map (λ text. text.now) list.now) }
+    {
+        PhraseIndex::of_texts(alloc, list)
+    }
+
+    /// The index of the texts of a list.
+    fn of_texts<T: HasText>(alloc: Global, list: &[T]) -> Result<PhraseIndex, Memory>
+        requires rise { Rise (map T.text list.now) }
+        requires few { length list.now < 4294967296 }
+        ensures { IfOk result (λ index. index ≡ map T.text list.now) }
+    {
+        let mut bytes = Vec::with_capacity(alloc, total_len(list))?;
         let mut ends = Vec::with_capacity(alloc, list.len())?;
         let mut heads = Vec::with_capacity(alloc, list.len())?;
-        for text in &list {
-            let text = text.as_str().as_bytes();
+        for item in list {
+            let text = item.text().as_bytes();
             bytes.extend_from_slice(text)?;
             ends.push(bytes.len())?;
             heads.push(front(text, 0))?;
@@ -68,9 +87,11 @@ impl PhraseIndex {
         ensures found { IfSome result (λ n. slice_get self.now n ≡ Some run.now) }
         ensures number { IfSome result (λ n. n ≡ number_of self.now run.now) }
         ensures missing { IfNone result (¬ (Contains self.now run.now)) }
+        ensures range { IfSome result (λ n. exact_range self.now run.now ≡ (n, n + 1)) }
+        ensures no_range { IfNone result (exact_range self.now run.now ≡ (number_of self.now run.now, number_of self.now run.now)) }
     {
         let run = run.as_bytes();
-        let (low, high) = self.near(run);
+        let (low, high) = self.near(run, 0, self.len() as usize);
         self.find(run, low, high)
     }
 
@@ -80,10 +101,43 @@ impl PhraseIndex {
         ensures range { (result.start, result.end) ≡ prefix_range self.now run.now }
         ensures numbers { IsRange (λ text. begins_with text run.now) self.now (result.start, result.end) }
     {
-        let run = run.as_bytes();
-        let start = self.start(run);
-        let end = self.end(run, start);
+        self.prefix_within(run.as_bytes(), self.whole())
+    }
+
+    /// The numbers of all phrases, which all begin with the empty run.
+    pub fn whole(&self) -> Range<u32>
+        ensures start { result.start ≡ 0 }
+        ensures end { result.end ≡ length self.now }
+        ensures range { (result.start, result.end) ≡ prefix_range self.now [] }
+    {
+        0..self.len()
+    }
+
+    /// The numbers of the phrases that begin with the run, as `prefix` gives them, looked for among those alone that begin
+    /// with a front of the run: the range of a shorter run, or the whole. Takes no memory.
+    pub fn prefix_within(&self, run: &[u8], range: Range<u32>) -> Range<u32>
+        requires { IsRangeOfFront self.now run.now (range.start, range.end) }
+        ensures range { (result.start, result.end) ≡ prefix_range self.now run.now }
+        ensures numbers { IsRange (λ text. begins_with text run.now) self.now (result.start, result.end) }
+        ensures low { range.start ≤ result.start }
+        ensures high { result.end ≤ range.end }
+    {
+        let _count = self.len();
+        let (from, to) = (range.start as usize, range.end as usize);
+        let start = self.start(run, from, to);
+        let end = self.end(run, start, to);
         start as u32..end as u32
+    }
+
+    /// Whether a phrase is the run, given the range of those that begin with it; the first of these is the one. Takes no
+    /// memory.
+    pub fn is_exact(&self, run: &[u8], range: &Range<u32>) -> bool
+        requires { (range.now.start, range.now.end) ≡ prefix_range self.now run.now }
+        ensures range { exact_range self.now run.now ≡ (range.now.start, range.now.start + cond result 1 0) }
+        ensures there { IsTrue result ↔ Contains self.now run.now }
+    {
+        let _count = self.len();
+        range.start < range.end && self.text(range.start as usize).len() == run.len()
     }
 
     /// A copy of the phrase with this number, counted from 0.
@@ -119,19 +173,23 @@ impl PhraseIndex {
         self.heads.as_slice()
     }
 
-    /// Two places between which the run's number is, as the heads tell; below the second where a phrase is the run.
-    fn near(&self, run: &[u8]) -> (usize, usize)
+    /// Two places between which the run's number is, as the heads tell, where it is known to be between two others; below
+    /// the second where a phrase is the run.
+    fn near(&self, run: &[u8], from: usize, to: usize) -> (usize, usize)
+        requires low { from ≤ number_of self.now run.now }
+        requires high { number_of self.now run.now ≤ to }
+        requires within { to ≤ length self.now }
         ensures low { result.0 ≤ number_of self.now run.now }
         ensures high { number_of self.now run.now ≤ result.1 }
-        ensures there { Contains self.now run.now → number_of self.now run.now < result.1 }
-        ensures within { result.1 ≤ length self.now }
+        ensures there { Contains self.now run.now → number_of self.now run.now < to → number_of self.now run.now < result.1 }
+        ensures within { result.1 ≤ to }
         ensures rise { Rise self.now }
         ensures few { length self.now < 4294967296 }
     {
         let heads = self.heads();
         let head = front(run, 0);
-        let low = border(heads, 0, heads.len(), head);
-        (low, past(heads, low, head))
+        let low = border(heads, from, to, head);
+        (low, past(heads, low, to, head))
     }
 
     /// The number of the phrase that is the run, from `low` on and below `high`, if there is one.
@@ -155,28 +213,31 @@ impl PhraseIndex {
         None
     }
 
-    /// How many phrases come before the run.
-    fn start(&self, run: &[u8]) -> usize
-        ensures value { result ≡ number_of self.now run.now }
-        ensures rise { Rise self.now }
-        ensures few { length self.now < 4294967296 }
+    /// How many phrases come before the run: a number from `from` to `to`.
+    fn start(&self, run: &[u8], from: usize, to: usize) -> usize
+        requires low { from ≤ number_of self.now run.now }
+        requires high { number_of self.now run.now ≤ to }
+        requires within { to ≤ length self.now }
+        ensures { result ≡ number_of self.now run.now }
     {
-        let (low, high) = self.near(run);
+        let (low, high) = self.near(run, from, to);
         self.end_from(run, false, low, high)
     }
 
-    /// How many phrases come before the run or begin with it, where `start` come before it. The heads alone tell it where
-    /// they have all of the run.
-    fn end(&self, run: &[u8], start: usize) -> usize
-        requires { start ≡ number_of self.now run.now }
+    /// How many phrases come before the run or begin with it: a number up to `to`, where `start` come before it. The heads
+    /// alone tell it where they have all of the run.
+    fn end(&self, run: &[u8], start: usize, to: usize) -> usize
+        requires start { start ≡ number_of self.now run.now }
+        requires high { (prefix_range self.now run.now).1 ≤ to }
+        requires within { to ≤ length self.now }
         ensures { result ≡ (prefix_range self.now run.now).1 }
     {
         let last = front(run, 255);
         let is_in_head = run.len() <= 8;
         if is_in_head {
-            return up_to(self.heads(), start, last);
+            return up_to(self.heads(), start, to, last);
         }
-        self.end_from(run, true, start, past(self.heads(), start, last))
+        self.end_from(run, true, start, past(self.heads(), start, to, last))
     }
 
     /// How many phrases come before the run or, where `through` is set, begin with it: a number from `low` to `high`.
@@ -200,10 +261,10 @@ impl PhraseIndex {
 }
 
 /// How many bytes the texts have together.
-fn total_len(list: &[Text]) -> usize {
+fn total_len<T: HasText>(list: &[T]) -> usize {
     let mut total = 0usize;
-    for text in list {
-        total = total.saturating_add(text.len());
+    for item in list {
+        total = total.saturating_add(item.text().len());
     }
     total
 }

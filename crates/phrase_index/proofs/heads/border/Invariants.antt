@@ -1,12 +1,13 @@
-use Rattle.std.proofs.Common.{ℕ, ◌+◌, ◌<◌, ◌≤◌, length, get_or}
+use Rattle.std.proofs.Common.{ℕ, ◌+◌, ◌<◌, ◌≤◌, get_or}
 use Rattle.phrase_index.proofs.heads.border.Given as goal
 
 -- the place that is sought is one of the next
 abbrev pub invariant-quarter : goal.invariant-quarter
 invariant-quarter l = record {
-  within : l.low + l.len ≤ length l.numbers;
-  before : (n : ℕ) → n < l.low → get_or l.numbers n 0 < l.key;
-  behind : (n : ℕ) → l.low + l.len ≤ n → n < length l.numbers → l.key ≤ get_or l.numbers n 0;
+  low : l.from ≤ l.low;
+  high : l.low + l.len ≤ l.to;
+  before : (n : ℕ) → l.from ≤ n → n < l.low → get_or l.numbers n 0 < l.key;
+  behind : (n : ℕ) → l.low + l.len ≤ n → n < l.to → l.key ≤ get_or l.numbers n 0;
 }
 
 abbrev pub decreases-quarter : goal.decreases-quarter
@@ -14,9 +15,10 @@ decreases-quarter l = l.len
 
 abbrev pub invariant-one : goal.invariant-one
 invariant-one l = record {
-  within : l.low + l.len ≤ length l.numbers;
-  before : (n : ℕ) → n < l.low → get_or l.numbers n 0 < l.key;
-  behind : (n : ℕ) → l.low + l.len ≤ n → n < length l.numbers → l.key ≤ get_or l.numbers n 0;
+  low : l.from ≤ l.low;
+  high : l.low + l.len ≤ l.to;
+  before : (n : ℕ) → l.from ≤ n → n < l.low → get_or l.numbers n 0 < l.key;
+  behind : (n : ℕ) → l.low + l.len ≤ n → n < l.to → l.key ≤ get_or l.numbers n 0;
 }
 
 abbrev pub decreases-one : goal.decreases-one
