@@ -26,6 +26,9 @@ is_read (Ok x) y given = inl (cc given)
 is_read (Err refused.Memory) y given = inr refl
 is_read {Y} (Err (refused.Fault f)) y given = absurd (cc given)
 
+pub is_refusal : {Y : Type 0} (a b : Refused RowFault) → ◌≡◌ {A = Result Y (Refused RowFault)} (Err a) (Err b) → a ≡ b
+is_refusal a b e = cc
+
 -- ---- the places
 
 -- no place lies behind the end

@@ -1,14 +1,15 @@
 -- Records one after another, to the end of the bytes.
-use Rattle.std.proofs.Common.{◌≡◌, ℕ, zero, suc, ◌+◌, ◌<◌, ◌≤◌, List, [], ◌∷◌, ◌++◌, length, Result, Ok, Err, refl, sym, ap, subst, ◌∙◌, append_assoc, arith}
+use Rattle.std.proofs.Common.{◌≡◌, ℕ, zero, suc, ◌+◌, ◌<◌, ◌≤◌, List, [], ◌∷◌, ◌++◌, length, Result, Ok, Err, refl, sym, ap, subst, ◌∙◌, append_assoc, arith, ◌⊎◌, ⊎_elim}
 use Rattle.std.specs.Prelude.{IfOk}
 use Rattle.std.proofs.lemmas.List.{length-append, append-nil}
 use Rattle.std.proofs.lemmas.List.Concat.{flat_map-cons}
 use Rattle.geo_base.specs.declared.refusal.Refused.{Refused}
 use Rattle.geo_base.specs.declared.refusal.Refused.TheVariants as refused
 use Rattle.grid_row.specs.declared.fault.RowFault.{RowFault}
+use Rattle.grid_row.specs.declared.fault.RowFault.TheVariants.{Count}
 use Rattle.grid_row.specs.declared.record.Record.{Record}
 use Rattle.grid_row.specs.Spelling.{spelling, spellings, IsRecord, AreRecords}
-use Rattle.grid_row.specs.Reading.{◌>>=◌, record_at, records_at, decoding}
+use Rattle.grid_row.specs.Reading.{◌>>=◌, set_at, record_at, records_at, decoding}
 use Rattle.grid_row.specs.Kept.{Fails, Gives, records_behind}
 use Rattle.grid_row.proofs.Fields.{IsBytes, bind_ok, ok_is}
 use Rattle.grid_row.proofs.Records.{record_takes, record_again}
@@ -125,6 +126,34 @@ pub less_left : (bytes : List ℕ) (r : Record) (after : List ℕ) → IsBytes b
 less_left bytes r after fits is =
     let t = record_takes bytes (r, after) fits is in
     shorter (spelling r) after bytes (spelled r) t.0.parts
+
+-- ---- a fault of the first record
+
+abbrev pub BeginsWithRecord : List ℕ → Type 0
+BeginsWithRecord bytes = (x : Record × List ℕ) × (record_at bytes ≡ Ok x)
+
+pub first_on : (bytes rest : List ℕ) (x : Record × List ℕ) → record_at rest ≡ Ok x → BeginsWithRecord bytes ⊎ (rest ≡ bytes) → BeginsWithRecord bytes
+first_on bytes rest x is first = ⊎_elim (λ begins. begins) (λ (same : rest ≡ bytes). (x, ap record_at (sym same) ∙ is)) first
+
+-- where the first record isn't read, all of the bytes are still there
+pub still_all : (bytes rest : List ℕ) (f : RowFault) → record_at bytes ≡ Err f → BeginsWithRecord bytes ⊎ (rest ≡ bytes) → rest ≡ bytes
+still_all bytes rest f is first = ⊎_elim (λ (begins : BeginsWithRecord bytes). let bad : done_with begins.0 ≡ Err f = sym begins.1 ∙ is in absurd cc) (λ same. same) first
+  where
+    done_with : Record × List ℕ → Result (Record × List ℕ) RowFault
+    done_with x = Ok x
+
+-- no bytes are too few, and have no number of rows out of range
+pub no_bytes : (bytes : List ℕ) → length bytes ≡ 0 → record_at bytes ≡ Err Count → ⊥
+unfolding record_at set_at
+no_bytes [] none e = cc
+no_bytes (b ∷ bytes) none e = omega (arith, none)
+
+-- so they are where there are too few for a record
+pub still_short : (bytes rest : List ℕ) → IsBytes bytes → length bytes < 20 → BeginsWithRecord bytes ⊎ (rest ≡ bytes) → rest ≡ bytes
+still_short bytes rest fits less first = ⊎_elim (λ (begins : BeginsWithRecord bytes). absurd (
+    let t = record_takes bytes begins.0 fits begins.1 in
+    let lens : length bytes ≡ length (spelling begins.0.0) + length begins.0.1 = ap (length {A = ℕ}) t.0.parts ∙ length-append (spelling begins.0.0) begins.0.1 in
+    omega (arith, lens, less))) (λ same. same) first
 
 pub no_records_behind : (front : List Record) (read : Result (List Record) RowFault) → front ≡ [] → records_behind front read ≡ read
 no_records_behind front (Ok rs) none = ap (λ (l : List Record). Ok (l ++ rs)) none

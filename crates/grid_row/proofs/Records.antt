@@ -1,8 +1,9 @@
 -- A record that is read is spelled so, and what is spelled so is read.
-use Rattle.std.proofs.Common.{◌≡◌, ℕ, zero, suc, ◌+◌, ◌-◌, ◌^◌, ◌≤◌, List, [], ◌∷◌, ◌++◌, length, drop, Result, Ok, Err, refl, sym, ap, subst, ◌∙◌, append_assoc, arith, ◌⊎◌, inl, inr, ⊎_elim, Bool, true, false, cond, eqb, ltb, take}
+use Rattle.std.proofs.Common.{◌≡◌, ℕ, zero, suc, ◌+◌, ◌-◌, ◌*◌, ◌^◌, ◌<◌, ◌≤◌, List, [], ◌∷◌, ◌++◌, length, drop, Result, Ok, Err, refl, sym, ap, subst, ◌∙◌, append_assoc, arith, ◌⊎◌, inl, inr, ⊎_elim, Bool, true, false, cond, eqb, ltb, take}
 use Rattle.std.specs.Prelude.{IfOk}
 use Rattle.std.specs.List.{flat_map}
-use Rattle.std.specs.Int.{w32, w64, byte_len, from_le_bytes, to_le_bytes}
+use Rattle.std.specs.Int.{Width, w32, w64, byte_len, from_le_bytes, to_le_bytes}
+use Rattle.std.proofs.lemmas.Bool.{lt-ltb}
 use Rattle.std.proofs.lemmas.List.{drop_at, length-append}
 use Rattle.std.proofs.lemmas.List.Concat.{flat_map-cons}
 use Rattle.geo_base.specs.declared.refusal.Refused.{Refused}
@@ -11,7 +12,7 @@ use Rattle.grid_row.specs.declared.fault.RowFault.TheVariants.{Short, Count, Zer
 use Rattle.grid_row.specs.declared.record.Record.{Record}
 use Rattle.grid_row.specs.Rows.{FallsBelow, IsRows}
 use Rattle.grid_row.specs.Spelling.{set_bytes, spelling, IsRecord}
-use Rattle.grid_row.specs.Reading.{◌>>=◌, set_at, count_at, row_at, rows_at, record_at, front}
+use Rattle.grid_row.specs.Reading.{◌>>=◌, number_at, set_at, count_at, row_at, rows_at, record_at, front}
 use Rattle.grid_row.specs.Kept.{Gives}
 use Rattle.grid_row.proofs.Fields.{IsBytes, bind_ok, ok_is, Takes, Takes-then, set_takes, set_again, count_takes, count_again, row_takes, row_again}
 
@@ -151,6 +152,45 @@ count_comes_first bytes bits behind count rest set counted e =
     (λ (rows : rows_at count (2 ^ 64) rest ≡ Err Count). rows_tell count (2 ^ 64) rest rows)
     (λ end. let bad : made bits end.0 ≡ Err Count = end.2 in cc)
     (bind_err (rows_at count (2 ^ 64) rest) (made bits) Count (sym (after_parts bytes bits behind count rest set counted) ∙ e))
+
+-- ---- and so is that there are fewer bytes than a set and a number of rows take
+
+number_faults : (w : Width) (bytes : List ℕ) (f : RowFault) → number_at w bytes ≡ Err f → f ≡ Short
+number_faults w bytes f e = by (ltb (length bytes) (byte_len w)) (from_le_bytes w (take (byte_len w) bytes), drop (byte_len w) bytes) e
+  where
+    by : (b : Bool) (n : ℕ × List ℕ) → cond b (Err Short) (Ok n) ≡ Err f → f ≡ Short
+    by true n is = cc
+    by false n is = absurd cc
+
+pub set_faults : (bytes : List ℕ) (f : RowFault) → set_at bytes ≡ Err f → f ≡ Short
+unfolding set_at
+set_faults bytes f e =
+    ⊎_elim
+    (λ (low : number_at w64 bytes ≡ Err f). number_faults w64 bytes f low)
+    (λ more. ⊎_elim
+    (λ (high : number_at w64 more.0.1 ≡ Err f). number_faults w64 more.0.1 f high)
+    (λ end. absurd (cc (end.2)))
+    (bind_err (number_at w64 more.0.1) (λ high. Ok (more.0.0 + high.0 * 2 ^ 64, high.1)) f more.2))
+    (bind_err (number_at w64 bytes) (λ low. number_at w64 low.1 >>= λ high. Ok (low.0 + high.0 * 2 ^ 64, high.1)) f e)
+
+set_length : (bytes : List ℕ) (bits : ℕ) (behind : List ℕ) → IsBytes bytes → set_at bytes ≡ Ok (bits, behind) → length bytes ≡ 16 + length behind
+set_length bytes bits behind fits set =
+    ap (length {A = ℕ}) (set_takes bytes (bits, behind) fits set).0.parts ∙ length-append (set_bytes bits) behind
+
+pub count_faults : (bytes : List ℕ) (bits : ℕ) (behind : List ℕ) (f : RowFault) → IsBytes bytes → set_at bytes ≡ Ok (bits, behind) → count_at behind ≡ Err f → length bytes < 20 → f ≡ Short
+unfolding count_at
+count_faults bytes bits behind f fits set counted less =
+    let long = set_length bytes bits behind fits set in
+    let short : ltb (length behind) (byte_len w32) ≡ true = lt-ltb _ _ (omega (arith, long, less)) in
+    let none : count_at behind ≡ Err Short = rw short refl in
+    cc
+
+pub short_comes_first : (bytes : List ℕ) (bits : ℕ) (behind : List ℕ) (count : ℕ) (rest : List ℕ) → IsBytes bytes → set_at bytes ≡ Ok (bits, behind) → count_at behind ≡ Ok (count, rest) → length bytes < 20 → ⊥
+short_comes_first bytes bits behind count rest fits set counted less =
+    let long = set_length bytes bits behind fits set in
+    let t = set_takes bytes (bits, behind) fits set in
+    let more : length behind ≡ 4 + length rest = ap (length {A = ℕ}) (count_takes behind (count, rest) t.0.rest_fits counted).0.parts ∙ length-append (to_le_bytes w32 count) rest in
+    omega (arith, long, more, less)
 
 -- the record of its parts
 pub of_parts : (bytes : List ℕ) (bits : ℕ) (behind : List ℕ) (count : ℕ) (rest : List ℕ) (rows last : List ℕ) → set_at bytes ≡ Ok (bits, behind) → count_at behind ≡ Ok (count, rest) → rows_at count (2 ^ 64) rest ≡ Ok (rows, last)

@@ -5,7 +5,7 @@ ghost use Rattle.std.specs.Int.{w32, w64};
 ghost use Rattle.std.specs.Io.{StartsWith};
 ghost use Rattle.geo_base.specs.declared.refusal.Refused.TheVariants as refused;
 ghost use Rattle.grid_row.specs.declared.fault.RowFault.{RowFault};
-ghost use Rattle.grid_row.specs.declared.fault.RowFault.TheVariants.{Count};
+ghost use Rattle.grid_row.specs.declared.fault.RowFault.TheVariants.{Short, Count};
 ghost use Rattle.grid_row.specs.declared.record.Record.{Record};
 ghost use Rattle.grid_row.specs.Spelling.{IsRecord, spelling};
 ghost use Rattle.grid_row.specs.Reading.{number_at, set_at, count_at, row_at, rows_at, record_at, front};
@@ -80,7 +80,7 @@ fn row_of(top: u128, bytes: &[u8]) -> Result<(u64, &[u8]), RowFault>
     Ok((row, rest))
 }
 
-/// Reads so many rows to the end of a list; gives the bytes after them. Room is asked for once, and for no more rows than
+/// Reads so many rows to the end of a list; gives the bytes after them. Room is asked for once, and never for more rows than
 /// the bytes can hold.
 pub(crate) fn read_rows<'a>(
     rows: &mut Vec<u64>,
@@ -107,6 +107,7 @@ pub(crate) fn read_rows<'a>(
 #[tactic(auto, unfolding(crate::specs::Reading::record_at))]
 fn record_of(alloc: Global, bytes: &[u8]) -> Result<(Record, &[u8]), Refused<RowFault>>
     ensures gives { Gives (λ x. (x.0, x.1.now)) result (record_at bytes.now) }
+    ensures short { length bytes.now < 20 → result ≡ Err (refused.Fault Short) }
     ensures outright { record_at bytes.now ≡ Err Count → result ≡ Err (refused.Fault Count) }
 {
     let (bits, rest) = set_of(bytes)?;
@@ -126,6 +127,7 @@ fn record_of(alloc: Global, bytes: &[u8]) -> Result<(Record, &[u8]), Refused<Row
 /// The record at the front and how many bytes it takes.
 fn front_of(alloc: Global, bytes: &[u8]) -> Result<(Record, usize), Refused<RowFault>>
     ensures gives { Gives (λ x. x) result (front bytes.now) }
+    ensures short { length bytes.now < 20 → result ≡ Err (refused.Fault Short) }
     ensures outright { front bytes.now ≡ Err Count → result ≡ Err (refused.Fault Count) }
 {
     let (found, rest) = record_of(alloc, bytes)?;
@@ -136,8 +138,8 @@ fn front_of(alloc: Global, bytes: &[u8]) -> Result<(Record, usize), Refused<RowF
 /// the set of 16 bytes, the number of rows in 4, which is 1 to 8,388,608, and the rows of 8 bytes each, which strictly fall.
 /// Bytes may follow the record.
 ///
-/// Memory may be refused in place of any answer but `Count`: a number of rows out of range is found before room is asked
-/// for, and room for no more rows than the bytes can hold.
+/// Memory may be refused in place of any answer but `Count` and, where there are fewer than 20 bytes, `Short`: both are found
+/// before room is asked for, which is never for more rows than the bytes can hold.
 pub fn read_record(alloc: Global, bytes: &[u8]) -> Result<(Record, usize), Refused<RowFault>>
     // What is read is spelled so, at the front.
     ensures spelled { IfOk result (λ x. IsRecord x.0 × (x.1 ≡ length (spelling x.0)) × (bytes.now ≡ spelling x.0 ++ drop x.1 bytes.now)) }
@@ -146,6 +148,7 @@ pub fn read_record(alloc: Global, bytes: &[u8]) -> Result<(Record, usize), Refus
         → (result ≡ Ok (r, length (spelling r))) ⊎ (result ≡ Err refused.Memory) }
     ensures record { IfOk result (λ x. front bytes.now ≡ Ok x) }
     ensures fault { (e : RowFault) → result ≡ Err (refused.Fault e) → front bytes.now ≡ Err e }
+    ensures short { length bytes.now < 20 → result ≡ Err (refused.Fault Short) }
     ensures outright { front bytes.now ≡ Err Count → result ≡ Err (refused.Fault Count) }
 {
     front_of(alloc, bytes)

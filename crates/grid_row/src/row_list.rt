@@ -1,6 +1,8 @@
 //! Lists of records.
 
-ghost use Rattle.std.specs.Prelude.{◌≡◌, ◌++◌, ◌∷◌, [], ◌<◌, ◌≤◌, length, IfOk, IfErr, OnOk, OnErr, Ok, Some, slice_get, slice_range};
+ghost use Rattle.std.specs.Prelude.{◌≡◌, ◌++◌, ◌∷◌, [], ◌<◌, ◌≤◌, length, IfOk, IfErr, OnOk, OnErr, Ok, Err, Some, slice_get, slice_range};
+ghost use Rattle.geo_base.specs.declared.refusal.Refused.TheVariants as refused;
+ghost use Rattle.grid_row.specs.declared.fault.RowFault.TheVariants.{Short, Count};
 ghost use Rattle.grid_row.specs.declared.record.Record.{Record};
 ghost use Rattle.grid_row.specs.Rows.{IsRows};
 ghost use Rattle.grid_row.specs.Reading.{record_at};
@@ -116,6 +118,8 @@ impl RowList {
     pub(crate) fn read_front<'a>(&mut self, bytes: &'a [u8]) -> Result<&'a [u8], Refused<RowFault>>
         ensures ok { IfOk result (λ rest. (r : Record) × (record_at bytes.now ≡ Ok (r, rest.now)) × (self.new ≡ self.old ++ r ∷ [])) }
         ensures err { IfErr result (λ e. Fails e (record_at bytes.now)) }
+        ensures short { length bytes.now < 20 → result ≡ Err (refused.Fault Short) }
+        ensures outright { record_at bytes.now ≡ Err Count → result ≡ Err (refused.Fault Count) }
         ensures kept { OnErr result (self.new ≡ self.old) }
     {
         let (bits, rest) = set_of(bytes)?;

@@ -6,5 +6,6 @@ mod MarkFacts
 mod PartFacts
 mod RangeFacts
 mod TopFacts
+mod GreatestFacts
 mod RecordFacts
 mod MakingFacts

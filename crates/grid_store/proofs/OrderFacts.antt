@@ -1,25 +1,23 @@
 -- The orders of entries are total, what ties is one, and lists in one order with the same members are one.
-use Rattle.std.proofs.Common.{is_eq, ◌≡◌, ◌∙◌, ◌↔◌, ℕ, Bool, true, ◌&&◌, ◌⊎◌, inl, inr, ⊎_elim, List, [], ◌∷◌, refl, sym, ap, ap₂, subst, arith}
+use Rattle.std.proofs.Common.{is_eq, ◌≡◌, ◌∙◌, ◌↔◌, ℕ, Bool, true, ◌&&◌, ⊎_elim, List, [], ◌∷◌, refl, sym, ap, ap₂, subst, arith}
 use Rattle.std.specs.Prelude.{Contains}
 use Rattle.std.specs.Bool.{◌==◌}
-use Rattle.std.specs.List.{AllByRecursion, dedup}
+use Rattle.std.specs.List.{dedup}
 use Rattle.std.specs.List.Sorted.{IsStrictlySortedBy, IsSorted, IsPermutation}
 use Rattle.std.specs.Ordering.{nat_cmp, ordering_then, ordering_reverse, eq_by_cmp}
 use Rattle.std.specs.Cmp.{IsTotalOrder, IsEquivalence}
 use Rattle.std.specs.declared.cmp.Ordering.{Ordering}
-use Rattle.std.specs.declared.cmp.Ordering.TheVariants.{Less, Equal, Greater}
+use Rattle.std.specs.declared.cmp.Ordering.TheVariants.{Less, Greater}
 use Rattle.std.proofs.lemmas.Cmp.{then_total, on_total, back_total, nat_cmp_total, and_equiv, on_equiv, nat_eq_equiv}
 use Rattle.std.proofs.lemmas.List.Kept.{Contains-dedup, Contains-from_dedup, IsStrictlySortedBy-dedup}
 use Rattle.std.proofs.lemmas.List.Sorted.{Contains-permutation, IsPermutation-sym}
 use Rattle.std.proofs.lemmas.Bool.{and_parts}
 use Rattle.std.proofs.lemmas.Bool.Decides.{nat_tests}
-use Rattle.geo_base.specs.declared.lang_set.LangSet.{LangSet}
 use Rattle.geo_base.proofs.Members.{member_here, member_there, member_cases, no_member}
 use Rattle.grid_row.specs.Packed.{packed}
 use Rattle.grid_store.specs.declared.entry.GridEntry.{GridEntry}
 use Rattle.grid_store.specs.declared.packing.PackedEntry.{PackedEntry}
-use Rattle.grid_store.specs.Entries.{pair_cmp}
-use Rattle.grid_store.specs.Order.{entry_cmp, Rise, IsStoreOf}
+use Rattle.grid_store.specs.Order.{entry_cmp, IsStoreOf}
 use Rattle.grid_store.specs.Packing.{packed_cmp}
 use Rattle.grid_store.proofs.ListFacts.{all_at}
 
@@ -48,15 +46,6 @@ entry_row e = packed e.row
 
 pub entry_cmp_total : IsTotalOrder entry_cmp
 entry_cmp_total = then_total (on_total entry_phrase nat_cmp_total) (then_total (on_total entry_bits nat_cmp_total) (on_total entry_row (back_total nat_cmp_total)))
-
-abbrev first : ℕ × ℕ → ℕ
-first p = p.0
-
-abbrev second : ℕ × ℕ → ℕ
-second p = p.1
-
-pub pair_cmp_total : IsTotalOrder pair_cmp
-pair_cmp_total = then_total (on_total first nat_cmp_total) (on_total second nat_cmp_total)
 
 -- ---- what `==` says
 

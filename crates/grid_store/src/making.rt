@@ -4,7 +4,7 @@ ghost use Rattle.std.specs.Prelude.{◌≡◌, ◌+◌, ◌<◌, ◌≤◌, ◌+
 ghost use Rattle.grid_row.specs.Rows.{IsRows};
 ghost use Rattle.grid_row.specs.Spelling.{spelling, AreRecords, room_of};
 ghost use Rattle.grid_store.specs.Records.{groups, records_of};
-ghost use Rattle.grid_store.specs.Packing.{opened, IsPacked};
+ghost use Rattle.grid_store.specs.Packing.{unpacked_entry, IsPacked};
 ghost use Rattle.grid_store.specs.Marks.{with_mark, after};
 ghost use Rattle.grid_store.specs.Tops.{first_row, top_at};
 ghost use Rattle.grid_store.specs.Parts.{ArePartsOf};
@@ -114,8 +114,8 @@ impl Parts {
     pub(crate) fn of(alloc: Global, entries: &[PackedEntry]) -> Result<Parts, Memory>
         requires few { length entries.now ≤ 8388608 }
         requires fit { All IsPacked entries.now }
-        requires records { AreRecords (records_of (map opened entries.now)) }
-        ensures { IfOk result (ArePartsOf (groups (map opened entries.now))) }
+        requires records { AreRecords (records_of (map unpacked_entry entries.now)) }
+        ensures { IfOk result (ArePartsOf (groups (map unpacked_entry entries.now))) }
     {
         let mut parts = Parts::with_room(alloc, entries)?;
         let mut rows = Vec::new(alloc);

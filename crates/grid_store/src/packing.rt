@@ -5,7 +5,7 @@ ghost use Rattle.std.specs.List.Sorted.{IsStrictlySortedBy};
 ghost use Rattle.grid_row.specs.Packed.{IsRow};
 ghost use Rattle.grid_store.specs.declared.packing.PackedEntry.{PackedEntry};
 ghost use Rattle.grid_store.specs.Entries.{AreRows};
-ghost use Rattle.grid_store.specs.Packing.{packed_entry, IsPacked, packed_cmp, same_group, group_front, first_group};
+ghost use Rattle.grid_store.specs.Packing.{packed_entry, IsPacked, packed_cmp, same_group, group_front, first_group_length};
 
 use crate::entry::GridEntry;
 use geo_base::lang_set::LangSet;
@@ -64,7 +64,7 @@ fn compare(a: &PackedEntry, b: &PackedEntry) -> Ordering
 }
 
 /// Puts the entries into their order, each once.
-fn rise(entries: &mut Vec<PackedEntry>)
+fn sort_distinct(entries: &mut Vec<PackedEntry>)
     ensures rise { IsStrictlySortedBy packed_cmp entries.new.items }
     ensures members { (k : PackedEntry) → Contains entries.new.items k ↔ Contains entries.old.items k }
     ensures few { length entries.new.items ≤ length entries.old.items }
@@ -86,7 +86,7 @@ pub(crate) fn packed_entries(
 {
     let mut entries = pack_entries(alloc, list.as_slice())?;
     drop(list);
-    rise(&mut entries);
+    sort_distinct(&mut entries);
     Ok(entries)
 }
 
@@ -114,7 +114,7 @@ fn front_of_group(first: &PackedEntry, more: &[PackedEntry]) -> usize
 
 /// How many entries the first group has.
 pub(crate) fn group_length(entries: &[PackedEntry]) -> usize
-    ensures value { result ≡ first_group entries.now }
+    ensures value { result ≡ first_group_length entries.now }
     ensures bound { result ≤ length entries.now }
 {
     match entries {

@@ -32,14 +32,22 @@ pub struct GridStore {
 impl Model for GridStore {
     ghost use Rattle.std.specs.Prelude.{List, map};
     ghost use Rattle.grid_store.specs.declared.entry.GridEntry.{GridEntry};
-    ghost use Rattle.grid_store.specs.Packing.{opened};
+    ghost use Rattle.grid_store.specs.Packing.{unpacked_entry};
     ghost use Rattle.grid_store.specs.Stored.{IsStored};
 
     ghost Value = { List GridEntry };
 
-    ghost view = { λ s. map opened s.entries.value.items };
+    ghost view = { λ s. map unpacked_entry s.entries.value.items };
 
-    ghost invariant = { λ s. IsStored (map opened s.entries.value.items) s.parts };
+    ghost invariant = { λ s. IsStored (map unpacked_entry s.entries.value.items) s.parts };
+}
+
+/// What lies in a store of some phrases: the bytes of their records, and how many records and rows these have.
+#[derive(Drop)]
+struct Found<'a> {
+    bytes: &'a [u8],
+    records: usize,
+    rows: usize,
 }
 
 fn between<T>(list: &[T], from: usize, to: usize) -> &[T]
@@ -52,7 +60,7 @@ fn between<T>(list: &[T], from: usize, to: usize) -> &[T]
 
 impl GridStore {
     /// The store of these entries, at most 8,388,608, each of which counts once. While it is made it never takes more than
-    /// twice the room of the entries handed in, these included.
+    /// twice the room of the entries handed in, these included; where they are fewer than 16, up to 30 bytes more.
     pub fn build(alloc: Global, list: Vec<GridEntry>) -> Result<GridStore, Memory>
         requires few { length list.items ≤ 8388608 }
         requires rows { AreRows list.items }
@@ -80,7 +88,8 @@ impl GridStore {
         (from, to)
     }
 
-    /// The number of the distinct entries of the phrases with these numbers, at most 8,388,608; takes no memory.
+    /// The number of the distinct entries of the phrases with these numbers, at most 8,388,608; takes no memory. A store's
+    /// fields are private, so this is where a caller learns the rule that its entries keep.
     pub fn count(&self, phrases: Range<u32>) -> u64
         ensures value { result ≡ length (entries_in (phrases.start, phrases.end) self.now) }
         ensures bound { result ≤ 8388608 }
@@ -117,29 +126,44 @@ impl GridStore {
         Some((best / 16, (best % 16) as u8))
     }
 
+    /// The bytes of the records of these phrases, and how many records and rows these have.
+    fn found(&self, phrases: &Range<u32>) -> Found<'_>
+        ensures bytes { result.bytes.now ≡ spellings (records_of (entries_in (phrases.now.start, phrases.now.end) self.now)) }
+        ensures are { AreRecords (records_of (entries_in (phrases.now.start, phrases.now.end) self.now)) }
+        ensures records { result.records ≡ length (records_of (entries_in (phrases.now.start, phrases.now.end) self.now)) }
+        ensures rows { result.rows ≡ length (entries_in (phrases.now.start, phrases.now.end) self.now) }
+    {
+        let (from, to) = self.bounds(phrases);
+        let records = (to.records - from.records) as usize;
+        let rows = (to.rows - from.rows) as usize;
+        let bytes = between(
+            self.parts.bytes.as_slice(),
+            from.bytes as usize,
+            to.bytes as usize,
+        );
+        Found {
+            bytes,
+            records,
+            rows,
+        }
+    }
+
     /// The bytes of the records of these phrases, one record for each phrase and set, by phrase and then by set as a number;
     /// takes no memory. [`grid_row::decoding::decode`] reads them.
     pub fn bytes(&self, phrases: Range<u32>) -> &[u8]
         ensures bytes { result.now ≡ spellings (records_of (entries_in (phrases.start, phrases.end) self.now)) }
         ensures records { AreRecords (records_of (entries_in (phrases.start, phrases.end) self.now)) }
     {
-        let (from, to) = self.bounds(&phrases);
-        between(
-            self.parts.bytes.as_slice(),
-            from.bytes as usize,
-            to.bytes as usize,
-        )
+        self.found(&phrases).bytes
     }
 
     /// The records of these phrases, as their bytes have them. Room for all is asked for at once.
     pub fn rows(&self, phrases: Range<u32>) -> Result<RowList, Memory>
         ensures { IfOk result (λ rows. rows ≡ records_of (entries_in (phrases.start, phrases.end) self.now)) }
     {
-        let (from, to) = self.bounds(&phrases);
-        let records = (to.records - from.records) as usize;
-        let rows = (to.rows - from.rows) as usize;
-        let room = RowList::with_room(self.alloc, records, rows)?;
-        match decode_into(room, self.bytes(phrases)) {
+        let found = self.found(&phrases);
+        let room = RowList::with_room(self.alloc, found.records, found.rows)?;
+        match decode_into(room, found.bytes) {
             Ok(list) => Ok(list),
             Err(Refused::Memory) => Err(Memory),
             Err(Refused::Fault(_)) => unreachable!(),

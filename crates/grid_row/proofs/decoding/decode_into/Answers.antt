@@ -8,7 +8,7 @@ use Rattle.grid_row.proofs.KeptFacts.{is_reading, is_fault, is_read}
 use Rattle.grid_row.proofs.decoding.decode_into.Goals as goal
 
 read : (c : goal.After-records_of) → Gives {X = List Record} {Y = List Record} (λ x. x) c.records_of.result (decoding c.args.bytes.now)
-read c = subst (λ f. Gives {X = List Record} {Y = List Record} (λ x. x) c.records_of.result f) (no_records_behind c.args.room (decoding c.args.bytes.now) c.requires) c.records_of.ensures
+read c = subst (λ f. Gives {X = List Record} {Y = List Record} (λ x. x) c.records_of.result f) (no_records_behind c.args.room (decoding c.args.bytes.now) c.requires) c.records_of.ensures.gives
 
 pub returns-clause-spelled : goal.returns-clause-spelled
 returns-clause-spelled c = is_decoded c.args.bytes.now c.records_of.result (λ i. omega (arith, c.type_inv.bytes i)) (read c)

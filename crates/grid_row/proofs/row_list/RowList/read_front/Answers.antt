@@ -1,11 +1,39 @@
-use Rattle.std.proofs.Common.{◌≡◌, ◌∙◌, ◌++◌, ◌∷◌, [], ◌^◌, Ok, sym, ap, length, ℕ, List, arith}
+use Rattle.std.proofs.Common.{◌≡◌, ◌∙◌, ◌++◌, ◌∷◌, [], ◌^◌, Ok, Err, sym, ap, length, ℕ, List, arith}
 use Rattle.grid_row.specs.declared.record.Record.{Record}
 use Rattle.grid_row.specs.declared.row_list.RecordEnd.{RecordEnd}
 use Rattle.grid_row.specs.Reading.{rows_at, record_at}
-use Rattle.grid_row.proofs.Records.{of_parts, record_of, record_takes}
+use Rattle.grid_row.specs.declared.fault.RowFault.{RowFault}
+use Rattle.grid_row.proofs.Records.{of_parts, record_of, record_takes, set_faults, count_faults, short_comes_first, count_comes_first}
 use Rattle.grid_row.proofs.RowSteps.{Behind, behind_ok}
 use Rattle.grid_row.proofs.KeptFacts.{Pushed, pushed, CutBack, cut_back}
+use Rattle.std.proofs.lemmas.Result.{err_from_is_err_and}
+use Rattle.geo_base.specs.declared.refusal.Refused.TheVariants as refused
 use Rattle.grid_row.proofs.row_list.RowList.read_front.Goals as goal
+
+pub returns-in_err-bits-clause-short : goal.returns-in_err-bits-clause-short
+returns-in_err-bits-clause-short c less =
+    let p = err_from_is_err_and c.from_residual.result c.from_residual.ensures.1 in
+    rw (p.1, p.2) (ap (λ (f : RowFault). Err (refused.Fault f)) (set_faults c.args.bytes.now c.in_err-bits.field-0.0 (sym c.in_err-bits.ensures)))
+
+pub returns-in_err-count-clause-short : goal.returns-in_err-count-clause-short
+returns-in_err-count-clause-short c less =
+    let p = err_from_is_err_and c.from_residual-in_err-count.result c.from_residual-in_err-count.ensures.1 in
+    rw (p.1, p.2) (ap (λ (f : RowFault). Err (refused.Fault f)) (count_faults c.args.bytes.now c.in_ok-bits.bits c.in_ok-bits.rest.now c.in_err-count.field-0.0 (λ i. omega (arith, c.type_inv.bytes i)) (sym c.in_ok-bits.ensures) (sym c.in_err-count.ensures.value) less))
+
+pub returns-in_err-reserve-clause-short : goal.returns-in_err-reserve-clause-short
+returns-in_err-reserve-clause-short c less = absurd (short_comes_first c.args.bytes.now c.in_ok-bits.bits c.in_ok-bits.rest.now c.in_ok-count.count c.in_ok-count.rest.now (λ i. omega (arith, c.type_inv.bytes i)) (sym c.in_ok-bits.ensures) (sym c.in_ok-count.ensures.value) less)
+
+pub returns-in_err-reserve-clause-outright : goal.returns-in_err-reserve-clause-outright
+returns-in_err-reserve-clause-outright c e = absurd (count_comes_first c.args.bytes.now c.in_ok-bits.bits c.in_ok-bits.rest.now c.in_ok-count.count c.in_ok-count.rest.now (sym c.in_ok-bits.ensures) (sym c.in_ok-count.ensures.value) e)
+
+pub returns-in-Ok-clause-short : goal.returns-in-Ok-clause-short
+returns-in-Ok-clause-short c less = absurd (short_comes_first c.args.bytes.now c.in_ok-bits.bits c.in_ok-bits.rest.now c.in_ok-count.count c.in_ok-count.rest.now (λ i. omega (arith, c.type_inv.bytes i)) (sym c.in_ok-bits.ensures) (sym c.in_ok-count.ensures.value) less)
+
+pub returns-in-Err-clause-short : goal.returns-in-Err-clause-short
+returns-in-Err-clause-short c less = absurd (short_comes_first c.args.bytes.now c.in_ok-bits.bits c.in_ok-bits.rest.now c.in_ok-count.count c.in_ok-count.rest.now (λ i. omega (arith, c.type_inv.bytes i)) (sym c.in_ok-bits.ensures) (sym c.in_ok-count.ensures.value) less)
+
+pub returns-in-Err-clause-outright : goal.returns-in-Err-clause-outright
+returns-in-Err-clause-outright c e = absurd (count_comes_first c.args.bytes.now c.in_ok-bits.bits c.in_ok-bits.rest.now c.in_ok-count.count c.in_ok-count.rest.now (sym c.in_ok-bits.ensures) (sym c.in_ok-count.ensures.value) e)
 
 read : (c : goal.After-push_reserved) → Behind c.self.inside.rows.items (rows_at c.in_ok-count.count (2 ^ 64) c.in_ok-count.rest.now) c.read_rows.new.rows.items c.in-Ok.rest.now
 read c = behind_ok c.self.inside.rows.items (rows_at c.in_ok-count.count (2 ^ 64) c.in_ok-count.rest.now) c.read_rows.new.rows.items c.in-Ok.rest.now c.in-Ok.ensures.ok

@@ -6,7 +6,7 @@ use Rattle.std.proofs.lemmas.List.Sorted.{answers_always, ranks_by}
 use Rattle.std.proofs.lemmas.List.Filters.{dedup_is}
 use Rattle.grid_store.specs.Packing.{packed_cmp}
 use Rattle.grid_store.proofs.OrderFacts.{packed_cmp_total, same, sorted_rise, sorted_members}
-use Rattle.grid_store.proofs.packing.rise.Goals as goal
+use Rattle.grid_store.proofs.packing.sort_distinct.Goals as goal
 
 pub returns-clause-rise : goal.returns-clause-rise
 returns-clause-rise c =
