@@ -13,10 +13,9 @@ use Rattle.geo_layer.specs.declared.head.Head.{Head}
 use Rattle.geo_query.specs.QueryView.{QueryView}
 use Rattle.feature_reader.specs.declared.phrase.Phrase.{Phrase}
 use Rattle.feature_reader.specs.FeatureView.{FeatureView}
-use Rattle.feature_reader.specs.Table.{Table, IsTable, comes_before}
+use Rattle.feature_reader.specs.Table.{Table, IsTable, comes_before, IsOfHead}
 use Rattle.plain_answer.specs.Match.{matches_in, runs}
 use Rattle.plain_answer.specs.Links.{meets_bounds, link_of, run_links, phrase_links, feature_links, links}
-use Rattle.plain_answer.specs.Answering.{IsOfHead}
 
 -- what a link of a table is: one of an entry's feature, at one of its tiles, in a layer of the head
 pub record IsLinkIn (head : Head) (table : Table) (l : Link) : Type 0 where

@@ -2,11 +2,15 @@ mod Admitted
 mod Agreeing
 mod Answered
 mod Begins
+pub mod CountFacts
+pub mod Counting
 mod Counts
-mod Differing
-mod EntryFacts
+pub mod Differing
+pub mod EntryFacts
+mod JobLinks
 mod LayerTokens
 mod Offers
-pub mod OfHead
+pub mod OnceFacts
 mod Rising
-mod RunLists
+pub mod RunLists
+pub mod SameCompat

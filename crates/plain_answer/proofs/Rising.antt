@@ -16,6 +16,17 @@ use Rattle.plain_answer.specs.Match.{matches_in, runs}
 use Rattle.plain_answer.specs.Links.{meets_bounds, link_of, run_links, phrase_links, feature_links, links}
 use Rattle.plain_answer.proofs.Differing.{all_flat_map}
 
+-- things that are read as one number, and then things that rise and are read as no less, rise
+pub one_before : {Y : Type 0} (read : Y → ℕ) (k : ℕ) (ys zs : List Y) → All (λ y. read y ≡ k) ys → All (λ y. k ≤ read y) zs → AllPairs (λ a b. read a ≤ read b) zs → AllPairs (λ a b. read a ≤ read b) (ys ++ zs)
+one_before read k [] zs same least rising = rising
+one_before read k (y ∷ ys) zs same least rising =
+    let later = All-tail (λ z. read z ≡ k) y ys same in
+    let all_least : All (λ z. k ≤ read z) (ys ++ zs) =
+    All-append (λ z. k ≤ read z) ys zs (All-weaker (λ z. read z ≡ k) (λ z. k ≤ read z) (λ z is. omega (arith, is)) ys later) least in
+    AllPairs-cons (λ a b. read a ≤ read b) y (ys ++ zs)
+    (subst (λ n. All (λ z. n ≤ read z) (ys ++ zs)) (sym (All-head (λ z. read z ≡ k) y ys same)) all_least)
+    (one_before read k ys zs later least rising)
+
 -- pieces that are marked, each by what it is made of, rise where the marks do
 module _ {X Y : Type 0} (mark : X → ℕ) (read : Y → ℕ) (f : X → List Y) (marked : (x : X) → All (λ y. read y ≡ mark x) (f x)) where
   at_least : (k : ℕ) (xs : List X) → All (λ x. k ≤ mark x) xs → All (λ y. k ≤ read y) (flat_map f xs)
@@ -25,20 +36,10 @@ module _ {X Y : Type 0} (mark : X → ℕ) (read : Y → ℕ) (f : X → List Y)
       (All-weaker (λ y. read y ≡ mark x) (λ y. k ≤ read y) (λ y is. subst (λ n. k ≤ n) (sym is) (All-head (λ z. k ≤ mark z) x xs least)) (f x) (marked x))
       (at_least k xs (All-tail (λ z. k ≤ mark z) x xs least))
 
-  one_before : (k : ℕ) (ys zs : List Y) → All (λ y. read y ≡ k) ys → All (λ y. k ≤ read y) zs → AllPairs (λ a b. read a ≤ read b) zs → AllPairs (λ a b. read a ≤ read b) (ys ++ zs)
-  one_before k [] zs same least rising = rising
-  one_before k (y ∷ ys) zs same least rising =
-      let later = All-tail (λ z. read z ≡ k) y ys same in
-      let all_least : All (λ z. k ≤ read z) (ys ++ zs) =
-      All-append (λ z. k ≤ read z) ys zs (All-weaker (λ z. read z ≡ k) (λ z. k ≤ read z) (λ z is. omega (arith, is)) ys later) least in
-      AllPairs-cons (λ a b. read a ≤ read b) y (ys ++ zs)
-      (subst (λ n. All (λ z. n ≤ read z) (ys ++ zs)) (sym (All-head (λ z. read z ≡ k) y ys same)) all_least)
-      (one_before k ys zs later least rising)
-
   rise_flat_map : (xs : List X) → AllPairs (λ a b. mark a ≤ mark b) xs → AllPairs (λ a b. read a ≤ read b) (flat_map f xs)
   rise_flat_map [] rising = λ i j d less within. absurd (omega (arith, within))
   rise_flat_map (x ∷ xs) rising =
-      one_before (mark x) (f x) (flat_map f xs) (marked x)
+      one_before read (mark x) (f x) (flat_map f xs) (marked x)
       (at_least (mark x) xs (pairs_head (λ a b. mark a ≤ mark b) x xs rising))
       (rise_flat_map xs (pairs_tail (λ a b. mark a ≤ mark b) x xs rising))
 

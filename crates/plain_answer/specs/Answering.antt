@@ -1,5 +1,5 @@
 -- The answer to a query over a head and a table of features, within a grid limit.
-use Rattle.std.specs.Prelude.{◌≡◌, ℕ, length, nat_lt, slice_get, if◌then◌else◌, All, IfSome, IsSome, Result, Ok, Err}
+use Rattle.std.specs.Prelude.{ℕ, length, nat_lt, if◌then◌else◌, Result, Ok, Err}
 use Rattle.geo_base.specs.Answer.{best}
 use Rattle.geo_base.specs.declared.answer.Answer.{Answer}
 use Rattle.geo_base.specs.declared.grids.Grids.{Grids}
@@ -16,7 +16,3 @@ answer_of head table limit q =
     if nat_lt limit (count head table q)
     then Err (record { total = count head table q; limit = limit })
     else Ok (record { tokens = length q.tokens; contexts = best (compat head.layers) (links head table q) })
-
--- each feature is in a layer of the head, and its tiles have that layer's zoom
-abbrev pub IsOfHead : Head → Table → Type 0
-IsOfHead head table = All (λ entry. IsSome (slice_get head.layers entry.0) × IfSome (slice_get head.layers entry.0) (λ layer. All (λ t. t.z ≡ layer.zoom) entry.1.tiles)) table

@@ -3,7 +3,8 @@
 ghost use Rattle.std.specs.Prelude.{◌≡◌, Ok, Err, IfOk};
 ghost use Rattle.geo_base.specs.declared.refusal.Refused.TheVariants as refused;
 ghost use Rattle.geo_base.specs.declared.grids.Grids.{Grids};
-ghost use Rattle.plain_answer.specs.Answering.{answer_of, IsOfHead};
+ghost use Rattle.plain_answer.specs.Answering.{answer_of};
+ghost use Rattle.feature_reader.specs.Table.{IsOfHead};
 
 use crate::chains::best_contexts;
 use crate::count::count_of;
@@ -34,12 +35,14 @@ pub fn answer_plain(
     ensures grids { (g : Grids) → result ≡ Err (refused.Fault g) → answer_of head.now table.now limit query.now ≡ Err g }
 {
     let _features = table.len(); // brings the order of the features here
+    let _layers = head.layers.len(); // brings here that there are at most 16
     let tokens = tokens_by_layer(alloc, head, query)?;
     let total = count_of(head, table, query, &tokens);
     if total > limit {
         return Err(Refused::Fault(Grids { total, limit }));
     }
     let links = links_of(alloc, head, table, query, &tokens)?;
-    let top = best_contexts(alloc, &head.layers, &links)?;
+    let stacks = head.layers.stacks();
+    let top = best_contexts(alloc, &stacks, &links)?;
     Ok(top.answer(query.tokens().len() as u8))
 }

@@ -2,6 +2,7 @@
 
 ghost use Rattle.std.specs.Prelude.{◌≡◌, ◌*◌, ◌<◌, ◌≤◌, length, map, filter, slice_get};
 ghost use Rattle.geo_text.specs.Tokens.{replaced};
+ghost use Rattle.feature_reader.specs.FeatureView.{IsFeature};
 ghost use Rattle.feature_reader.specs.Table.{rows_of};
 ghost use Rattle.plain_answer.specs.Match.{runs_from, matches};
 ghost use Rattle.plain_answer.specs.Count.{run_count, feature_count, count};
@@ -56,14 +57,15 @@ fn feature_count(
     requires { tokens.now ≡ map (λ l. replaced l.tokens query.now.tokens) head.now.layers }
     ensures value { result ≡ feature_count query.now (slice_get head.now.layers number) feature.now }
     ensures bound { result ≤ 400 * rows_of feature.now }
+    ensures feature { IsFeature feature.now }
 {
+    let tiles = feature.tiles().len() as u128;
     let place = usize::from(number);
     if place >= head.layers.len() {
         return 0;
     }
     let _tokens = query.tokens(); // brings the rule of a query here: at most 20 tokens
     let layer = head.layers.at(place);
-    let tiles = feature.tiles().len() as u128;
     let mut count = 0;
     for phrase in feature.phrases().as_slice() {
         count += u128::from(run_count(query, layer, &tokens[place], phrase)) * tiles;

@@ -4,6 +4,7 @@
 pub mod answer;
 mod chains;
 mod count;
+pub mod job_answer;
 pub mod laws;
 mod layer_tokens;
 mod links;
