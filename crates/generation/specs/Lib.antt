@@ -1,0 +1,5 @@
+pub mod Generation
+pub mod Index
+-- for private contracts alone
+pub mod Kept
+pub mod Parts
