@@ -11,6 +11,7 @@ use Rattle.feature_feed.specs.Drain.{Gave, IsLoad, after_items}
 use Rattle.feature_feed.specs.Feed.{FeedView}
 use Rattle.feature_feed.specs.Load.{Load, IsLoadOf, IsAllOf, report_of}
 use Rattle.feature_feed.specs.declared.feed.FeedItem.{FeedItem}
+use Rattle.generation.specs.Generation.{BuilderView}
 use Rattle.query_server.specs.Running.{IsPulled}
 use Rattle.query_server.proofs.Pulled.{pulled_one}
 
@@ -59,3 +60,17 @@ drained f xs k x b within was layer langs place table after (Ok r) (gave, g, l) 
   report_is layer langs place table after (f b) (f x) r gave g l ended failed limited,
   l.table,
 )
+
+-- a builder with other features
+abbrev pub with_table : BuilderView → Table → BuilderView
+with_table b table = record b { table = table }
+
+-- a builder whose features alone changed
+changed : (old new : BuilderView) (table : Table) → ◌≡◌ {A = Table → BuilderView} (with_table new) (with_table old) → new.table ≡ table → new ≡ with_table old table
+changed old new table same is = ap (λ (f : Table → BuilderView). f new.table) same ∙ ap (with_table old) is
+
+-- and of what it was filled with
+pub filled : {A E : Type 0} (old new : BuilderView) (of_load : Load → Table) (pulled : Load → Type 0) (told : A → Load → Type 0) (result : Result A E) → ◌≡◌ {A = Table → BuilderView} (with_table new) (with_table old)
+    → IfOk result (λ r. (load : Load) × pulled load × told r load × (new.table ≡ of_load load)) → IfOk result (λ r. (load : Load) × pulled load × told r load × (new ≡ with_table old (of_load load)))
+filled old new of_load pulled told (Ok r) same (load, by, tells, is) = (load, by, tells, changed old new (of_load load) same is)
+filled old new of_load pulled told (Err e) same found = tt

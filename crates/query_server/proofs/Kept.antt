@@ -5,9 +5,6 @@ use Rattle.std.proofs.lemmas.List.{length-append}
 use Rattle.std.proofs.lemmas.List.Elements.{All-push, All-weaker}
 use Rattle.geo_layer.specs.Layer.{LayerView}
 use Rattle.geo_layer.specs.declared.head.Head.{Head}
-use Rattle.feature_reader.specs.FeatureView.{FeatureView}
-use Rattle.feature_reader.specs.Table.{Table}
-use Rattle.plain_answer.specs.Answering.{IsOfHead}
 use Rattle.session_text.specs.Session.{SessionView, IsLineOf, already, line_at, after_item, step_of}
 use Rattle.session_text.specs.declared.body.BodyLine.{BodyLine}
 use Rattle.session_text.specs.declared.body.BodyLine.TheVariants.{Put, Drop, Load, Limit, Publish, Ask}
@@ -15,9 +12,8 @@ use Rattle.session_text.specs.declared.item.Item.{Item}
 use Rattle.session_text.specs.declared.item.Item.TheVariants.{Skipped, Title, Langs, Layer, Body, Join, End}
 use Rattle.session_text.specs.declared.session.Stage.TheVariants as at
 use Rattle.session_text.specs.declared.session.Step.TheVariants.{More}
-use Rattle.session_text.proofs.Bodies.{fits_head}
-use Rattle.query_server.specs.Running.{IsReady}
-use Rattle.query_server.specs.declared.respond.Standing.{Standing}
+use Rattle.session_text.proofs.Bodies.{in_body, fits_head}
+use Rattle.query_server.specs.Running.{Stood, asks_of, IsReady}
 
 -- ---- a head that has more layers
 
@@ -42,70 +38,76 @@ line_too : (feeds : ℕ) (head more : Head) → HasLayersOf more head → (line 
 line_too feeds head more has (Put layer f) is = there_too (slice_get head.layers layer) (slice_get more.layers layer) (λ l. All (λ t. t.z ≡ l.zoom) f.tiles) (has layer) is
 line_too feeds head more has (Drop layer id) is = tt
 line_too feeds head more has (Load feed layer) is = (is.0, some_too (slice_get head.layers layer) (slice_get more.layers layer) (has layer) is.1)
-line_too feeds head more has (Limit n) is = tt
+line_too feeds head more has (Limit n) is = is
 line_too feeds head more has Publish is = tt
 line_too feeds head more has (Ask lane text) is = is
-
-table_too : (head more : Head) → HasLayersOf more head → (table : Table) → IsOfHead head table → IsOfHead more table
-table_too head more has table is =
-    All-weaker
-    (λ (entry : ℕ × FeatureView). IsSome (slice_get head.layers entry.0) × IfSome (slice_get head.layers entry.0) (λ layer. All (λ t. t.z ≡ layer.zoom) entry.1.tiles))
-    (λ (entry : ℕ × FeatureView). IsSome (slice_get more.layers entry.0) × IfSome (slice_get more.layers entry.0) (λ layer. All (λ t. t.z ≡ layer.zoom) entry.1.tiles))
-    (λ entry h. there_too (slice_get head.layers entry.0) (slice_get more.layers entry.0) (λ layer. All (λ t. t.z ≡ layer.zoom) entry.1.tiles) (has entry.0) h) table is
 
 -- ---- what stands, with more
 
 -- behind one line more
-pub later : (feeds : ℕ) (head : Head) (n : ℕ) (left : List BodyLine) (s : Standing) → IsReady feeds head n left s → IsReady feeds head (n + 1) left s
+pub later : (feeds : ℕ) (head : Head) (n : ℕ) (left : List BodyLine) (s : Stood) → IsReady feeds head n left s → IsReady feeds head (n + 1) left s
 later feeds head n left s r = record {
   lines = r.lines;
-  table = r.table;
-  published = r.published;
+  of_session = r.of_session;
   number = omega (arith, r.number);
-  asks = All-weaker (λ k. k + length left ≤ n) (λ k. k + length left ≤ n + 1) (λ k low. omega (arith, low)) s.asks r.asks;
+  asks = All-weaker (λ k. k + length left ≤ n) (λ k. k + length left ≤ n + 1) (λ k low. omega (arith, low)) (asks_of s) r.asks;
   lanes = r.lanes;
 }
 
--- in a head that has more layers
-of_more : (feeds : ℕ) (head more : Head) → HasLayersOf more head → (n : ℕ) (left : List BodyLine) (s : Standing) → IsReady feeds head n left s → IsReady feeds more n left s
-of_more feeds head more has n left s r = record {
+-- in a head that has more layers, while nothing stands
+of_more : (feeds : ℕ) (head more : Head) → HasLayersOf more head → (n : ℕ) (left : List BodyLine) → IsReady feeds head n left None → IsReady feeds more n left None
+of_more feeds head more has n left r = record {
   lines = All-weaker (IsLineOf feeds head) (IsLineOf feeds more) (line_too feeds head more has) left r.lines;
-  table = table_too head more has s.table r.table;
-  published = table_too head more has s.published r.published;
+  of_session = tt;
   number = r.number;
   asks = r.asks;
   lanes = r.lanes;
 }
 
 -- with one line more
-with_line : (feeds : ℕ) (head : Head) (n : ℕ) (left : List BodyLine) (line : BodyLine) (s : Standing) → IsLineOf feeds head line → IsReady feeds head n left s → IsReady feeds head (n + 1) (left ++ line ∷ []) s
+with_line : (feeds : ℕ) (head : Head) (n : ℕ) (left : List BodyLine) (line : BodyLine) (s : Stood) → IsLineOf feeds head line → IsReady feeds head n left s → IsReady feeds head (n + 1) (left ++ line ∷ []) s
 with_line feeds head n left line s is r =
     let one : length (left ++ line ∷ []) ≡ length left + 1 = omega (arith, length-append left (line ∷ [])) in
     record {
       lines = All-push (IsLineOf feeds head) left line r.lines is;
-      table = r.table;
-      published = r.published;
+      of_session = r.of_session;
       number = omega (arith, r.number, one);
-      asks = All-weaker (λ k. k + length left ≤ n) (λ k. k + length (left ++ line ∷ []) ≤ n + 1) (λ k low. omega (arith, low, one)) s.asks r.asks;
+      asks = All-weaker (λ k. k + length left ≤ n) (λ k. k + length (left ++ line ∷ []) ≤ n + 1) (λ k low. omega (arith, low, one)) (asks_of s) r.asks;
       lanes = r.lanes;
     }
 
 -- ---- a line that is taken and closes no round
 
+-- something stands in the body alone
+abbrev pub IsBegun : Stood → SessionView → Type 0
+IsBegun st s = IsSome st → s.stage ≡ at.InBody
+
 -- what stands fits the session behind it
-pub ready_after : (s : SessionView) (n : ℕ) (line : List ℕ) (item : Item) (st : Standing) → line_at s line ≡ Ok item → step_of s.round item ≡ More → IsReady s.feeds s.head n s.round st
+pub ready_after : (s : SessionView) (n : ℕ) (line : List ℕ) (item : Item) (st : Stood) → IsBegun st s → line_at s line ≡ Ok item → step_of s.round item ≡ More → IsReady s.feeds s.head n s.round st
     → IsReady s.feeds (after_item s item).head (n + 1) (after_item s item).round st
-ready_after s n line Skipped st is does r = later s.feeds s.head n s.round st r
-ready_after s n line Title st is does r = later s.feeds s.head n s.round st r
-ready_after s n line (Langs codes) st is does r =
+ready_after s n line Skipped st begun is does r = later s.feeds s.head n s.round st r
+ready_after s n line Title st begun is does r = later s.feeds s.head n s.round st r
+ready_after s n line (Langs codes) (Some st) begun is does r = absurd (in_body s line (Langs codes) (begun refl) is)
+ready_after s n line (Langs codes) None begun is does r =
     let after = after_item s (Langs codes) in
-    later s.feeds after.head n s.round st (of_more s.feeds s.head after.head (λ k layer e. e) n s.round st r)
-ready_after s n line (Layer layer) st is does r =
+    later s.feeds after.head n s.round None (of_more s.feeds s.head after.head (λ k layer e. e) n s.round r)
+ready_after s n line (Layer layer) (Some st) begun is does r = absurd (in_body s line (Layer layer) (begun refl) is)
+ready_after s n line (Layer layer) None begun is does r =
     let after = after_item s (Layer layer) in
-    later s.feeds after.head n s.round st (of_more s.feeds s.head after.head (λ k x e. longer s.head.layers (layer ∷ []) k x e) n s.round st r)
-ready_after s n line (Body said) st is does r = with_line s.feeds s.head n s.round said st (fits_head s line said is) r
-ready_after s n line Join st is does r = absurd (cc does)
-ready_after s n line End st is does r = absurd (cc does)
+    later s.feeds after.head n s.round None (of_more s.feeds s.head after.head (λ k x e. longer s.head.layers (layer ∷ []) k x e) n s.round r)
+ready_after s n line (Body said) st begun is does r = with_line s.feeds s.head n s.round said st (fits_head s line said is) r
+ready_after s n line Join st begun is does r = absurd (cc does)
+ready_after s n line End st begun is does r = absurd (cc does)
+
+-- and the session is still in its body where something stands
+pub begun_after : (s : SessionView) (line : List ℕ) (item : Item) (st : Stood) → IsBegun st s → line_at s line ≡ Ok item → step_of s.round item ≡ More → IsBegun st (after_item s item)
+begun_after s line Skipped st begun is does = begun
+begun_after s line Title st begun is does = λ some. absurd (in_body s line Title (begun some) is)
+begun_after s line (Langs codes) st begun is does = λ some. absurd (in_body s line (Langs codes) (begun some) is)
+begun_after s line (Layer layer) st begun is does = λ some. absurd (in_body s line (Layer layer) (begun some) is)
+begun_after s line (Body said) st begun is does = λ some. refl
+begun_after s line Join st begun is does = absurd (cc does)
+begun_after s line End st begun is does = absurd (cc does)
 
 -- the session isn't spent
 pub sound_after : (s : SessionView) (item : Item) → already s.stage ≡ Ok tt → already (after_item s item).stage ≡ Ok tt

@@ -1,3 +1,4 @@
+mod Answered
 mod Drained
 mod Fed
 mod FedBy

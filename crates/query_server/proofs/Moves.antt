@@ -7,7 +7,6 @@ use Rattle.std.proofs.KnownBytes.{Appends-nil, Appends-trans}
 use Rattle.std.specs.Io.KnownBytes.{Appends}
 use Rattle.std.proofs.lemmas.List.Elements.{All-nil, All-replicate}
 use Rattle.geo_layer.specs.declared.head.Head.{Head}
-use Rattle.plain_answer.specs.Answering.{IsOfHead}
 use Rattle.feature_feed.specs.Feed.{FeedView}
 use Rattle.feature_feed.specs.Load.{Loads}
 use Rattle.feature_feed.specs.Load as given
@@ -29,12 +28,11 @@ use Rattle.session_text.proofs.Advance.{joins, goes_on, closes, ends, refuses, t
 use Rattle.session_text.proofs.Bodies.{reading_head, stage_after, last_after, feeds_after}
 use Rattle.query_server.specs.Generations.{BuilderState, new_builder}
 use Rattle.query_server.specs.Plain.{no_asks, IsPlainText}
-use Rattle.query_server.specs.Running.{RunLoads, Agrees, ArePulled, AreLoaded, builder_of, IsAnswered, IsReady, IsCut, IsRoundWritten, IsWritten, reading_here, IsAt, IsSaid, IsStopped, GoesOnOrEnds, IsUnderWay}
+use Rattle.query_server.specs.Running.{RunLoads, Agrees, ArePulled, AreLoaded, builder_of, IsAnswered, IsReady, IsCut, IsRoundWritten, IsWritten, reading_here, IsAt, IsSaid, IsStopped, GoesOnOrEnds, IsUnderWay, Stood, asks_of}
 use Rattle.query_server.specs.Promise.{StatusMeans, IsTextOf}
 use Rattle.query_server.specs.declared.line_reader.LineReader.{LineReader}
-use Rattle.query_server.specs.declared.respond.Standing.{Standing}
 use Rattle.query_server.specs.declared.running.Running.{Running}
-use Rattle.query_server.proofs.Kept.{later, ready_after, sound_after, open_after}
+use Rattle.query_server.proofs.Kept.{IsBegun, later, ready_after, begun_after, sound_after, open_after}
 use Rattle.query_server.proofs.Pulled.{loaded_on, none_loaded, pulled_on, agrees_front, agrees_rest}
 use Rattle.query_server.proofs.Fed.{names, gave_of}
 use Rattle.query_server.proofs.FedBy.{gave_agrees, all_agrees, fed, fed_cut}
@@ -43,12 +41,12 @@ use Rattle.query_server.proofs.Texts.{one_round_more, lines_append, written_more
 -- ---- readings behind bytes
 
 -- behind these bytes, with these loads run and this text written of these rounds, what follows reads so
-record IsBehind (kind : Kind) (views : List FeedView) (bytes written : List ℕ) (now : List FeedView) (done : RunLoads) (rounds : List (List BodyLine)) (s : Standing) (here : Bool → List ℕ → Reading) : Type 0 where
+record IsBehind (kind : Kind) (views : List FeedView) (bytes written : List ℕ) (now : List FeedView) (done : RunLoads) (rounds : List (List BodyLine)) (s : Stood) (here : Bool → List ℕ → Reading) : Type 0 where
   loaded : AreLoaded (lines_of_rounds rounds) done views now
   reads : (ended : Bool) (more : List ℕ) → reading (length views) kind ended (bytes ++ more) ≡ with_rounds rounds (here ended more)
   answered : (loads : Loads) → Agrees loads done → (ended : Bool) (more : List ℕ) → IsWritten loads (here ended more).head rounds s written
 
-reads_so : (kind : Kind) (views : List FeedView) (bytes written : List ℕ) (now : List FeedView) (done : RunLoads) (rounds : List (List BodyLine)) (s : Standing) (here there : Bool → List ℕ → Reading) → ((ended : Bool) (more : List ℕ) → here ended more ≡ there ended more)
+reads_so : (kind : Kind) (views : List FeedView) (bytes written : List ℕ) (now : List FeedView) (done : RunLoads) (rounds : List (List BodyLine)) (s : Stood) (here there : Bool → List ℕ → Reading) → ((ended : Bool) (more : List ℕ) → here ended more ≡ there ended more)
     → IsBehind kind views bytes written now done rounds s here → IsBehind kind views bytes written now done rounds s there
 reads_so kind views bytes written now done rounds s here there same b = record {
   loaded = b.loaded;
@@ -85,7 +83,7 @@ came_line kind views bytes written part now done old here =
     }
 
 -- a closed round was answered
-answered_round : (kind : Kind) (views : List FeedView) (bytes written put : List ℕ) (now after : List FeedView) (done more_done : RunLoads) (rounds : List (List BodyLine)) (round : List BodyLine) (head : Head) (old new : Standing) (there : Bool → List ℕ → Reading)
+answered_round : (kind : Kind) (views : List FeedView) (bytes written put : List ℕ) (now after : List FeedView) (done more_done : RunLoads) (rounds : List (List BodyLine)) (round : List BodyLine) (head : Head) (old new : Stood) (there : Bool → List ℕ → Reading)
     → ((ended : Bool) (more : List ℕ) → (there ended more).head ≡ head) → IsBehind kind views bytes written now done rounds old (λ ended more. with_rounds (round ∷ []) (there ended more))
     → AreLoaded round more_done now after → ((loads : Loads) → Agrees loads more_done → IsAnswered loads head round old new put)
     → IsBehind kind views bytes (written ++ put) after (done ++ more_done) (rounds ++ round ∷ []) new there
@@ -124,13 +122,13 @@ named_cut read rounds round later done more others are named of_round =
     ∙ sym (append_assoc (names done) (names more) (others ++ rest)) ∙ ap (λ l. l ++ (others ++ rest)) (sym (map-append (λ (d : ℕ × given.Load). d.0) done more))
 
 -- a round is cut by want of memory or a failed write
-cut_is_early : (loads : Loads) (head : Head) (round : List BodyLine) (old : Standing) (status : Status) (put : List ℕ) → IsCut loads head round old status put → (status ≡ Memory) ⊎ (status ≡ WriteFault)
+cut_is_early : (loads : Loads) (head : Head) (round : List BodyLine) (old : Stood) (status : Status) (put : List ℕ) → IsCut loads head round old status put → (status ≡ Memory) ⊎ (status ≡ WriteFault)
 cut_is_early loads head round old Memory put cut = inl refl
 cut_is_early loads head round old WriteFault put cut = inr refl
 cut_is_early loads head round old status put cut = absurd cut
 
 -- within a closed round
-cut_stops : (kind : Kind) (views : List FeedView) (bytes written put : List ℕ) (now after : List FeedView) (done more_done : RunLoads) (others : List ℕ) (rounds : List (List BodyLine)) (round : List BodyLine) (head : Head) (old : Standing) (status : Status) (there : Bool → List ℕ → Reading)
+cut_stops : (kind : Kind) (views : List FeedView) (bytes written put : List ℕ) (now after : List FeedView) (done more_done : RunLoads) (others : List ℕ) (rounds : List (List BodyLine)) (round : List BodyLine) (head : Head) (old : Stood) (status : Status) (there : Bool → List ℕ → Reading)
     → ((ended : Bool) (more : List ℕ) → (there ended more).head ≡ head) → IsBehind kind views bytes written now done rounds old (λ ended more. with_rounds (round ∷ []) (there ended more))
     → names more_done ++ others ≡ feeds_named round → ArePulled more_done others now after → ((loads : Loads) → Agrees loads more_done → IsCut loads head round old status put)
     → IsStopped kind views bytes (written ++ put) after done status
@@ -152,7 +150,7 @@ cut_stops kind views bytes written put now after done more_done others rounds ro
     )
 
 -- where memory is wanting
-memory_stops : (kind : Kind) (views : List FeedView) (bytes written : List ℕ) (now : List FeedView) (done : RunLoads) (rounds : List (List BodyLine)) (s : Standing) (here : Bool → List ℕ → Reading) → IsBehind kind views bytes written now done rounds s here
+memory_stops : (kind : Kind) (views : List FeedView) (bytes written : List ℕ) (now : List FeedView) (done : RunLoads) (rounds : List (List BodyLine)) (s : Stood) (here : Bool → List ℕ → Reading) → IsBehind kind views bytes written now done rounds s here
     → IsStopped kind views bytes written now done Memory
 memory_stops kind views bytes written now done rounds s here b limit count ended more =
     let x = here ended more in
@@ -167,7 +165,7 @@ memory_stops kind views bytes written now done rounds s here b limit count ended
     )
 
 -- where nothing follows: what is left to say is what the status says of a text of the closed rounds
-pub text_is : (kind : Kind) (views : List FeedView) (bytes written : List ℕ) (now : List FeedView) (done : RunLoads) (rounds : List (List BodyLine)) (s : Standing) (session : SessionView) (ending : Ending) (status : Status) (limit count : ℕ) (ended : Bool)
+pub text_is : (kind : Kind) (views : List FeedView) (bytes written : List ℕ) (now : List FeedView) (done : RunLoads) (rounds : List (List BodyLine)) (s : Stood) (session : SessionView) (ending : Ending) (status : Status) (limit count : ℕ) (ended : Bool)
     → ((loads : Loads) (read : Reading) → read.ending ≡ ending → IsTextOf loads read written → StatusMeans limit ended count loads status read written)
     → reading (length views) kind ended bytes ≡ with_rounds rounds (stopped session [] ending) → AreLoaded (lines_of_rounds rounds) done views now
     → ((loads : Loads) → Agrees loads done → IsWritten loads session.head rounds s written) → IsSaid limit ended count status (reading (length views) kind ended bytes) views now done written
@@ -181,7 +179,7 @@ text_is kind views bytes written now done rounds s session ending status limit c
     (loads, agrees, means loads (reading (length views) kind ended bytes) (ap (λ (r : Reading). r.ending) reads) (subst (λ (r : Reading). IsTextOf loads r written) (sym reads) text), fed kind ended bytes views now done loaded.1 are status)
 
 -- the same, wherever a call stands
-text_behind : (kind : Kind) (views : List FeedView) (bytes written : List ℕ) (now : List FeedView) (done : RunLoads) (rounds : List (List BodyLine)) (s : Standing) (session : SessionView) (ending : Ending) (status : Status)
+text_behind : (kind : Kind) (views : List FeedView) (bytes written : List ℕ) (now : List FeedView) (done : RunLoads) (rounds : List (List BodyLine)) (s : Stood) (session : SessionView) (ending : Ending) (status : Status)
     → ((limit count : ℕ) (ended : Bool) (loads : Loads) (read : Reading) → read.ending ≡ ending → IsTextOf loads read written → StatusMeans limit ended count loads status read written)
     → IsBehind kind views bytes written now done rounds s (λ _ _. stopped session [] ending) → IsStopped kind views bytes written now done status
 text_behind kind views bytes written now done rounds s session ending status means b limit count ended more =
@@ -218,13 +216,14 @@ pub more_fits : (count : ℕ) (old : Running) (q : LineReader) (part : List ℕ)
 more_fits count old q part fit took next =
     let (item, is, does, after) = took in
     let s = old.reader.session in
-    let ready = ready_after s old.reader.line (old.reader.begun.items ++ part) item old.standing is (sym does) (subst (λ n. IsReady n s.head old.reader.line s.round old.standing) (sym fit.lent) fit.ready) in
+    let ready = ready_after s old.reader.line (old.reader.begun.items ++ part) item old.standing fit.begun is (sym does) (subst (λ n. IsReady n s.head old.reader.line s.round old.standing) (sym fit.lent) fit.ready) in
     record {
       one_line = subst NoFeed (sym next.1) tt;
       short = subst (λ (l : List ℕ). length l ≤ longest) (sym next.1) (omega arith);
       sound = subst (λ (x : SessionView). already x.stage ≡ Ok tt) (sym after) (sound_after s item fit.sound);
       running = subst (λ (x : SessionView). x.stage ≢ at.Ended) (sym after) (open_after s item (sym does) fit.running);
       lent = ap (λ (x : SessionView). x.feeds) after ∙ feeds_after s item ∙ fit.lent;
+      begun = subst (IsBegun old.standing) (sym after) (begun_after s (old.reader.begun.items ++ part) item old.standing fit.begun is (sym does));
       ready =
           subst (λ (x : SessionView). IsReady count x.head q.line x.round old.standing) (sym after)
           (subst (λ n. IsReady count (after_item s item).head n (after_item s item).round old.standing) (sym next.0)
@@ -308,6 +307,7 @@ fits_from_ready count old new part round fit took next ready =
       sound = ap already facts.0;
       running = λ e. let bad : at.InBody ≡ at.Ended = sym facts.0 ∙ e in absurd (cc bad);
       lent = ap (λ (x : SessionView). x.feeds) after ∙ feeds_after old.reader.session item ∙ fit.lent;
+      begun = λ some. facts.0;
       ready =
           subst (λ (l : List BodyLine). IsReady count q.session.head q.line l new.standing) (sym facts.2)
           (subst (λ n. IsReady count q.session.head n [] new.standing) (sym next.0) (later count q.session.head old.reader.line [] new.standing ready));
@@ -385,6 +385,7 @@ part_fits count old q part fit none of_begun short of_session of_line = record {
   sound = subst (λ (x : SessionView). already x.stage ≡ Ok tt) (sym of_session) fit.sound;
   running = subst (λ (x : SessionView). x.stage ≢ at.Ended) (sym of_session) fit.running;
   lent = ap (λ (x : SessionView). x.feeds) of_session ∙ fit.lent;
+  begun = subst (IsBegun old.standing) (sym of_session) fit.begun;
   ready =
       subst (λ (x : SessionView). IsReady count x.head q.line x.round old.standing) (sym of_session)
       (subst (λ n. IsReady count old.reader.session.head n old.reader.session.round old.standing) (sym of_line) fit.ready);
@@ -426,38 +427,35 @@ stays_at kind views bytes written now done r here = ([], subst (λ (d : RunLoads
 
 -- ---- before the first byte
 
-pub begins : (kind : Kind) (feeds : ℕ) (views : List FeedView) (r : Running) → r.reader.session ≡ start feeds kind → r.reader.line ≡ 1 → r.reader.begun.items ≡ [] → ((head : Head) → builder_of head r.standing ≡ new_builder head) → r.standing.asks ≡ no_asks
-    → length views ≡ feeds → IsAt kind views [] [] views [] r
-begins kind feeds views r of_session of_line of_begun of_built of_asks lent = record {
+pub begins : (kind : Kind) (feeds : ℕ) (views : List FeedView) (r : Running) → r.reader.session ≡ start feeds kind → r.reader.line ≡ 1 → r.reader.begun.items ≡ [] → r.standing ≡ None → length views ≡ feeds → IsAt kind views [] [] views [] r
+begins kind feeds views r of_session of_line of_begun nothing lent = record {
   rounds = [];
   loaded = none_loaded views;
   reads = λ ended more. sym (same_here r.reader.session (start (length views) kind) r.reader.line 1 r.reader.begun.items [] (of_session ∙ ap (λ n. start n kind) (sym lent)) of_line of_begun ended more);
-  answered = λ loads agrees ended more. record { text = refl; builder = of_built (reading_here r.reader ended more).head; asks = of_asks };
+  answered = λ loads agrees ended more. record { text = refl; builder = ap (builder_of (reading_here r.reader ended more).head) nothing; asks = ap asks_of nothing };
 }
 
--- what stands then fits any head
-nothing_stands : (feeds : ℕ) (head : Head) (s : Standing) → ((head : Head) → builder_of head s ≡ new_builder head) → s.asks ≡ no_asks → IsReady feeds head 1 [] s
-nothing_stands feeds head s of_built of_asks =
-    let number : s.number ≡ 0 = ap (λ (b : BuilderState). b.last.number) (of_built head) in
-    record {
-      lines = All-nil (IsLineOf feeds head);
-      table = subst (IsOfHead head) (sym (ap (λ (b : BuilderState). b.table) (of_built head))) (λ k d less. absurd (omega (arith, less)));
-      published = subst (IsOfHead head) (sym (ap (λ (b : BuilderState). b.last.table) (of_built head))) (λ k d less. absurd (omega (arith, less)));
-      number = omega (arith, number);
-      asks = subst (λ (l : List ℕ). All (λ n. n + 0 ≤ 1) l) (sym of_asks) (All-replicate (λ n. n + 0 ≤ 1) 8 0 (omega arith));
-      lanes = ap length of_asks;
-    }
+-- nothing that stands fits any head
+nothing_stands : (feeds : ℕ) (head : Head) → IsReady feeds head 1 [] None
+nothing_stands feeds head = record {
+  lines = All-nil (IsLineOf feeds head);
+  of_session = tt;
+  number = omega arith;
+  asks = All-replicate (λ n. n + 0 ≤ 1) 8 0 (omega arith);
+  lanes = refl;
+}
 
-pub begins_fit : (kind : Kind) (feeds : ℕ) (r : Running) → r.reader.session ≡ start feeds kind → r.reader.line ≡ 1 → r.reader.begun.items ≡ [] → ((head : Head) → builder_of head r.standing ≡ new_builder head) → r.standing.asks ≡ no_asks → IsUnderWay feeds r
-begins_fit kind feeds r of_session of_line of_begun of_built of_asks = record {
+pub begins_fit : (kind : Kind) (feeds : ℕ) (r : Running) → r.reader.session ≡ start feeds kind → r.reader.line ≡ 1 → r.reader.begun.items ≡ [] → r.standing ≡ None → IsUnderWay feeds r
+begins_fit kind feeds r of_session of_line of_begun nothing = record {
   one_line = subst NoFeed (sym of_begun) tt;
   short = subst (λ (l : List ℕ). length l ≤ longest) (sym of_begun) (omega arith);
   sound = subst (λ (x : SessionView). already x.stage ≡ Ok tt) (sym of_session) refl;
   running = subst (λ (x : SessionView). x.stage ≢ at.Ended) (sym of_session) (λ e. cc e);
   lent = ap (λ (x : SessionView). x.feeds) of_session;
+  begun = subst (λ (s : Stood). IsBegun s r.reader.session) (sym nothing) (λ some. absurd (cc some));
   ready =
       subst (λ (x : SessionView). IsReady feeds x.head r.reader.line x.round r.standing) (sym of_session)
-      (subst (λ n. IsReady feeds (start feeds kind).head n [] r.standing) (sym of_line) (nothing_stands feeds (start feeds kind).head r.standing of_built of_asks));
+      (subst (λ n. IsReady feeds (start feeds kind).head n [] r.standing) (sym of_line) (subst (IsReady feeds (start feeds kind).head 1 []) (sym nothing) (nothing_stands feeds (start feeds kind).head)));
 }
 
 -- ---- at the end of the source
@@ -485,7 +483,7 @@ whole_is kind views bytes written now done count old fit is here =
     ∙ sym (here.reads true []) ∙ ap (reading (length views) kind true) (append-nil bytes)
 
 -- where nothing follows and no line ended it, the reading is open
-stays_open : (kind : Kind) (views : List FeedView) (bytes written : List ℕ) (now : List FeedView) (done : RunLoads) (rounds : List (List BodyLine)) (s : Standing) (here : Reading) (session : SessionView)
+stays_open : (kind : Kind) (views : List FeedView) (bytes written : List ℕ) (now : List FeedView) (done : RunLoads) (rounds : List (List BodyLine)) (s : Stood) (here : Reading) (session : SessionView)
     → reading (length views) kind true bytes ≡ with_rounds rounds here → here ≡ stopped session [] unended → AreLoaded (lines_of_rounds rounds) done views now → ((loads : Loads) → Agrees loads done → IsWritten loads here.head rounds s written)
     → (limit count : ℕ) → IsSaid limit true count Unended (reading (length views) kind true bytes) views now done written
 stays_open kind views bytes written now done rounds s here session reads is loaded answered limit count =

@@ -5,15 +5,16 @@ use Rattle.std.proofs.lemmas.List.Sums.{sum_by-cons}
 use Rattle.session_text.specs.declared.body.BodyLine.{BodyLine}
 use Rattle.session_text.specs.declared.body.BodyLine.TheVariants.{Put, Drop, Load, Limit, Publish, Ask}
 use Rattle.feature_feed.specs.Load.{Loads}
-use Rattle.query_server.specs.Generations.{Generation, BuilderState, after_line, builder_after, generations, is_publication, publications}
+use Rattle.generation.specs.Generation.{GenerationView}
+use Rattle.query_server.specs.Generations.{BuilderState, after_line, builder_after, generations, is_publication, publications}
 
 -- the first is the one published last, and those after it come later
-at_first : (g : Generation) (gs : List Generation) (k : ℕ) (h : Generation) → slice_get (g ∷ gs) k ≡ Some h
+at_first : (g : GenerationView) (gs : List GenerationView) (k : ℕ) (h : GenerationView) → slice_get (g ∷ gs) k ≡ Some h
     → ((n : ℕ) → slice_get gs n ≡ Some h → h.number ≡ g.number + 1 + n) → h.number ≡ g.number + k
-at_first g gs zero h is later = let same : g ≡ h = cc is in let n : h.number ≡ g.number = ap (λ (x : Generation). x.number) (sym same) in omega (arith, n)
+at_first g gs zero h is later = let same : g ≡ h = cc is in let n : h.number ≡ g.number = ap (λ (x : GenerationView). x.number) (sym same) in omega (arith, n)
 at_first g gs (suc k) h is later = let n : h.number ≡ g.number + 1 + k = later k is in omega (arith, n)
 
-pub numbered : (loads : Loads) (builder : BuilderState) (lines : List BodyLine) (k : ℕ) (g : Generation) → slice_get (generations loads builder lines) k ≡ Some g → g.number ≡ builder.last.number + k
+pub numbered : (loads : Loads) (builder : BuilderState) (lines : List BodyLine) (k : ℕ) (g : GenerationView) → slice_get (generations loads builder lines) k ≡ Some g → g.number ≡ builder.last.number + k
 numbered loads builder [] k g is = at_first builder.last [] k g is (λ n none. absurd (cc none))
 numbered loads builder (Put layer f ∷ lines) k g is = numbered loads (after_line loads builder (Put layer f)) lines k g is
 numbered loads builder (Drop layer id ∷ lines) k g is = numbered loads (after_line loads builder (Drop layer id)) lines k g is

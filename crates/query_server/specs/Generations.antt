@@ -3,37 +3,32 @@ use Rattle.std.specs.Prelude.{ℕ, ◌+◌, Bool, true, false, List, [], ◌∷�
 use Rattle.geo_layer.specs.declared.head.Head.{Head}
 use Rattle.feature_reader.specs.Table.{Table, put, without}
 use Rattle.feature_feed.specs.Load.{Loads, after_load}
+use Rattle.generation.specs.Generation.{GenerationView, BuilderView, usual_limit, generation_of}
+use Rattle.generation.specs.Generation as made
 use Rattle.session_text.specs.declared.body.BodyLine.{BodyLine}
 use Rattle.session_text.specs.declared.body.BodyLine.TheVariants.{Put, Drop, Load, Limit, Publish, Ask}
-
--- a published generation: its number, its grid limit, the head of the session, and the features
-pub record Generation : Type 0 where
-  pub number : ℕ
-  pub limit : ℕ
-  pub head : Head
-  pub table : Table
 
 -- what the builder has: the features, the grid limit of later publications, and the generation that was published last
 pub record BuilderState : Type 0 where
   pub table : Table
   pub limit : ℕ
-  pub last : Generation
+  pub last : GenerationView
 
--- the grid limit where none was set
-abbrev pub usual_limit : ℕ
-usual_limit = 2000000
-
--- generation 0, which is empty and counts as published from the start
-abbrev pub generation_0 : Head → Generation
-generation_0 head = record { number = 0; limit = usual_limit; head = head; table = [] }
+-- generation 0, which is empty and counts as published from the start: the one that a new builder makes first
+abbrev pub generation_0 : Head → GenerationView
+generation_0 head = generation_of (made.new_builder head)
 
 -- the builder before the first line
 abbrev pub new_builder : Head → BuilderState
 new_builder head = record { table = []; limit = usual_limit; last = generation_0 head }
 
--- the generation that the builder publishes next
-abbrev pub next_generation : BuilderState → Generation
-next_generation builder = record { number = builder.last.number + 1; limit = builder.limit; head = builder.last.head; table = builder.table }
+-- the builder that makes the next generation
+abbrev pub maker : BuilderState → BuilderView
+maker builder = record { head = builder.last.head; table = builder.table; limit = builder.limit; next = builder.last.number + 1 }
+
+-- the generation that is published next
+abbrev pub next_generation : BuilderState → GenerationView
+next_generation builder = generation_of (maker builder)
 
 -- the builder after a line, where the feeds gave this: a load puts what its feed gave
 abbrev pub after_line : Loads → BuilderState → BodyLine → BuilderState
@@ -50,13 +45,13 @@ builder_after loads builder [] = builder
 builder_after loads builder (line ∷ lines) = builder_after loads (after_line loads builder line) lines
 
 -- the generations that are published from a builder on, the one published last first
-abbrev pub generations : Loads → BuilderState → List BodyLine → List Generation
+abbrev pub generations : Loads → BuilderState → List BodyLine → List GenerationView
 generations loads builder [] = builder.last ∷ []
 generations loads builder (Publish ∷ lines) = builder.last ∷ generations loads (after_line loads builder Publish) lines
 generations loads builder (line ∷ lines) = generations loads (after_line loads builder line) lines
 
 -- all generations of a session with these lines: entry k is the k-th
-abbrev pub all_generations : Loads → Head → List BodyLine → List Generation
+abbrev pub all_generations : Loads → Head → List BodyLine → List GenerationView
 all_generations loads head lines = generations loads (new_builder head) lines
 
 -- the line publishes

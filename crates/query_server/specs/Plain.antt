@@ -14,7 +14,8 @@ use Rattle.session_text.specs.Reply.{reply_text, put_text, drop_text, load_text,
 use Rattle.session_text.specs.declared.body.BodyLine.{BodyLine}
 use Rattle.session_text.specs.declared.body.BodyLine.TheVariants as body
 use Rattle.session_text.specs.declared.body.BodyLine.TheVariants.{Put, Drop, Limit, Publish, Ask}
-use Rattle.query_server.specs.Generations.{Generation, BuilderState, new_builder, after_line, all_generations, publications}
+use Rattle.generation.specs.Generation.{GenerationView}
+use Rattle.query_server.specs.Generations.{BuilderState, new_builder, after_line, all_generations, publications}
 
 -- the reply that says an answer of the generation of this number
 abbrev pub reply_of : ℕ → Result Answer Grids → Reply
@@ -22,7 +23,7 @@ reply_of number (Ok answer) = reply.Found number answer
 reply_of number (Err grids) = reply.Grids number grids.total grids.limit
 
 -- the reply of a generation to the text of a query: the query's first fault, or the generation's answer
-abbrev pub reply_to : Generation → List ℕ → Reply
+abbrev pub reply_to : GenerationView → List ℕ → Reply
 reply_to g text = elim (query_of text) [ Err fault ↦ reply.Unreadable fault | Ok q ↦ reply_of g.number (answer_of g.head g.table g.limit q) ]
 
 -- the text has a fault that is found before any room is asked for
@@ -32,7 +33,7 @@ is_refused_outright text = elim (query_of text) [ Err fault ↦ needs_no_room fa
 -- ---- the text of a reply
 
 -- the line of an ask, at this lane and place, with the reply of a generation
-abbrev pub reply_line : Generation → ℕ → ℕ → List ℕ → List ℕ
+abbrev pub reply_line : GenerationView → ℕ → ℕ → List ℕ → List ℕ
 reply_line g lane place text = reply_text lane place (reply_to g text)
 
 -- the line of an ask that is answered `memory`: its query has no fault that is found before any room is asked for
@@ -40,7 +41,7 @@ abbrev pub IsMemoryReply : ℕ → ℕ → List ℕ → List ℕ → Type 0
 IsMemoryReply lane place text out = (is_refused_outright text ≡ false) × (out ≡ reply_text lane place reply.Memory)
 
 -- the line that an ask may be answered with by a generation: its reply, or that memory was wanting
-abbrev pub IsReplyOf : Generation → ℕ → ℕ → List ℕ → List ℕ → Type 0
+abbrev pub IsReplyOf : GenerationView → ℕ → ℕ → List ℕ → List ℕ → Type 0
 IsReplyOf g lane place text out = (out ≡ reply_line g lane place text) ⊎ IsMemoryReply lane place text out
 
 -- ---- the asks of the lanes
@@ -122,7 +123,7 @@ HasMemoryReply loads head rounds out = HasMemory loads (new_builder head) no_ask
 
 -- in this text of lines, the ask between these others has the reply of the generation that is the entry of all generations of the session whose place is the number of publications before the ask; or it is answered `memory`
 pub record IsAskedOf (loads : Loads) (head : Head) (before later : List BodyLine) (lane : ℕ) (text out : List ℕ) : Type 0 where
-  pub generation : Generation
+  pub generation : GenerationView
   pub published : slice_get (all_generations loads head (before ++ Ask lane text ∷ later)) (publications before) ≡ Some generation
   pub front : List ℕ
   pub said : List ℕ

@@ -7,12 +7,13 @@ ghost use Rattle.session_text.specs.Examples.{one_layer};
 ghost use Rattle.session_text.specs.declared.body.BodyLine.{BodyLine};
 ghost use Rattle.session_text.specs.declared.body.BodyLine.TheVariants.{Ask};
 ghost use Rattle.query_server.specs.Examples.{city_published_and_dropped, in_short};
-ghost use Rattle.query_server.specs.Generations.{Generation, generation_0, new_builder, builder_after, all_generations, publications};
+ghost use Rattle.generation.specs.Generation.{GenerationView};
+ghost use Rattle.query_server.specs.Generations.{generation_0, new_builder, builder_after, all_generations, publications};
 ghost use Rattle.query_server.specs.Plain.{no_asks, IsText, IsPlainText, plain_text, HasMemoryReply, IsAskedOf};
 
 /// Entry k of a session's generations has the number k; generation 0 is the first, with no features.
 pub fn generations_are_numbered()
-    ensures number { (loads : Loads) → (head : Head) → (lines : List BodyLine) → (k : ℕ) → (g : Generation) → slice_get (all_generations loads head lines) k ≡ Some g → g.number ≡ k }
+    ensures number { (loads : Loads) → (head : Head) → (lines : List BodyLine) → (k : ℕ) → (g : GenerationView) → slice_get (all_generations loads head lines) k ≡ Some g → g.number ≡ k }
     ensures first { (loads : Loads) → (head : Head) → all_generations loads head [] ≡ generation_0 head ∷ [] }
 {}
 

@@ -1,10 +1,13 @@
 //! Answers the lines of a round in order, and makes their text.
 
-ghost use Rattle.std.specs.Prelude.{◌≡◌, ◌⊎◌, ◌<◌, ◌≤◌, ℕ, false, List, [], ◌∷◌, length, map, slice_get, All, OnOk, OnErr, IfOk, Some, Ok, Err};
+ghost use Rattle.std.specs.Prelude.{◌≡◌, ◌⊎◌, ◌<◌, ◌≤◌, ℕ, ◌+◌, true, false, List, [], ◌∷◌, length, map, slice_get, All, OnOk, OnErr, IfOk, Some, Ok, Err};
+ghost use Rattle.std.specs.Arc.{arc_value};
+ghost use Rattle.geo_base.specs.declared.grids.Grids.{Grids};
+ghost use Rattle.geo_base.specs.declared.refusal.Refused.TheVariants as refused;
 ghost use Rattle.geo_layer.specs.declared.head.Head.{Head};
 ghost use Rattle.geo_layer.specs.Layer.{LayerView};
 ghost use Rattle.geo_query.specs.declared.reply.Reply.{Reply};
-ghost use Rattle.plain_answer.specs.Answering.{answer_of, IsOfHead};
+ghost use Rattle.plain_answer.specs.Answering.{answer_of};
 ghost use Rattle.feature_reader.specs.Table.{put, put_answer};
 ghost use Rattle.feature_reader.specs.declared.taker.PutFault.{PutFault};
 ghost use Rattle.feature_feed.specs.Drain.{after_items};
@@ -15,14 +18,16 @@ ghost use Rattle.session_text.specs.declared.body.BodyLine.{BodyLine};
 ghost use Rattle.session_text.specs.declared.body.BodyLine.TheVariants as body;
 ghost use Rattle.query_server.specs.Generations.{new_builder};
 ghost use Rattle.query_server.specs.Plain.{reply_of, reply_to, is_refused_outright, no_asks};
-ghost use Rattle.query_server.specs.Running.{builder_of, RunLoads, Agrees, IsPulled, MayBePulled, ArePulled, AreLoaded, IsStep, IsAnswered, IsReady};
+ghost use Rattle.query_server.specs.Running.{Stood, builder_of, IsOfSession, HasPlace, RunLoads, Agrees, IsPulled, MayBePulled, ArePulled, AreLoaded, IsStep, IsAnswered, IsReady};
 
 use feature_feed::drain::drain;
 use feature_feed::feed::Feed;
 use feature_reader::feature::Feature;
 use feature_reader::load_report::LoadReport;
-use feature_reader::table::FeatureTable;
 use feature_reader::taker::{PutFault, Taken, Taker};
+use generation::builder::Builder;
+use generation::generation::Generation;
+use geo_base::answer::Answer;
 use geo_base::grids::Grids;
 use geo_base::refusal::{Memory, Refused};
 use geo_layer::head::Head;
@@ -30,66 +35,74 @@ use geo_query::query::Query;
 use geo_query::read_query::read_query;
 use geo_query::reply::Reply;
 use geo_text::text::Text;
-use plain_answer::answer::answer_plain;
+use phrase_match::laws::job_is_right;
+use phrase_match::matching::matches;
+use phrase_match::plain_rows::PlainRows;
+use plain_answer::job_answer::answer_job;
 use session_text::body::{BodyLine, Round};
 use session_text::write::{
     write_drop, write_limit, write_load, write_published, write_put, write_reply,
 };
 use std::alloc::Global;
+use std::sync::Arc;
 
-/// The grid limit where none was set.
-const USUAL_LIMIT: u64 = 2_000_000;
-
-/// What stands while a session is answered: what the builder has, what was published last, and how often each lane has asked.
+/// What stands while a session is answered: the builder, what was published last, and how often each lane has asked.
 #[derive(Drop)]
 pub struct Standing {
-    /// The features that stand.
-    pub table: FeatureTable,
-    /// The grid limit of later publications, 1 to 8,388,608.
-    pub limit: u64,
-    /// The number of the last published generation; 0 is empty and counts as published from the start.
-    pub number: u32,
-    /// The features of that generation.
-    pub published: FeatureTable,
-    /// Its grid limit.
-    pub published_limit: u64,
+    /// The features that stand, and what the next generation is made of.
+    pub builder: Builder,
+    /// The generation that was published last; generation 0 counts as published from the start.
+    pub last: Arc<Generation>,
     /// How many asks each lane has had.
     pub asks: [u64; 8],
 }
 
 impl Standing {
-    /// What stands before the first line of the body.
-    pub fn new(alloc: Global) -> Standing
-        ensures builder { (head : Head) → builder_of head result ≡ new_builder head }
-        ensures asks { result.asks ≡ no_asks }
+    /// What stands before the first line of the body: generation 0, which is empty.
+    pub fn new(alloc: Global, head: &Head) -> Result<Standing, Memory>
+        ensures builder { IfOk result (λ s. builder_of head.now (Some s) ≡ new_builder head.now) }
+        ensures asks { IfOk result (λ s. s.asks ≡ no_asks) }
+        ensures session { IfOk result (λ s. IsOfSession head.now (Some s)) }
     {
-        Standing {
-            table: FeatureTable::new(alloc),
-            limit: USUAL_LIMIT,
-            number: 0,
-            published: FeatureTable::new(alloc),
-            published_limit: USUAL_LIMIT,
+        let mut builder = Builder::new(alloc, head.copy()?)?;
+        let last = builder.make()?;
+        Ok(Standing {
+            builder,
+            last,
             asks: [0; 8],
-        }
+        })
     }
 }
 
-/// The reply of the last published generation to a query that was read.
-fn reply_of_query(alloc: Global, head: &Head, standing: &Standing, query: &Query) -> Reply
-    requires { IsOfHead head.now standing.now.published }
-    ensures { (result ≡ reply_of standing.now.number (answer_of head.now standing.now.published standing.now.published_limit query.now)) ⊎ (result ≡ Reply.Memory) }
+/// The answer of a generation to a query: by its job, whose pieces are found and counted before any is decoded.
+fn answer_in(
+    alloc: Global,
+    generation: &Generation,
+    query: &Query,
+) -> Result<Answer, Refused<Grids>>
+    ensures answer { IfOk result (λ a. answer_of generation.now.head generation.now.table generation.now.limit query.now ≡ Ok a) }
+    ensures grids { (g : Grids) → result ≡ Err (refused.Fault g) → answer_of generation.now.head generation.now.table generation.now.limit query.now ≡ Err g }
 {
-    let generation = standing.number;
-    match answer_plain(
-        alloc,
-        head,
-        &standing.published,
-        standing.published_limit,
-        query,
-    ) {
-        Ok(answer) => Reply::Found { generation, answer },
+    job_is_right();
+    let _tokens = query.tokens(); // brings the rule of a query here
+    let _number = generation.number(); // brings the rule of a generation here
+    let job = matches(alloc, generation, query)?;
+    let mut rows = PlainRows::new(alloc, generation, query);
+    Ok(answer_job(alloc, &job, &mut rows)?)
+}
+
+/// The reply of a generation to a query that was read.
+fn reply_of_query(alloc: Global, generation: &Generation, query: &Query) -> Reply
+    ensures { (result ≡ reply_of generation.now.number (answer_of generation.now.head generation.now.table generation.now.limit query.now)) ⊎ (result ≡ Reply.Memory) }
+{
+    let number = generation.number();
+    match answer_in(alloc, generation, query) {
+        Ok(answer) => Reply::Found {
+            generation: number,
+            answer,
+        },
         Err(Refused::Fault(Grids { total, limit })) => Reply::Grids {
-            generation,
+            generation: number,
             total,
             limit,
         },
@@ -97,13 +110,12 @@ fn reply_of_query(alloc: Global, head: &Head, standing: &Standing, query: &Query
     }
 }
 
-/// The reply of the last published generation to the text of a query.
-fn reply(alloc: Global, head: &Head, standing: &Standing, text: &str) -> Reply
-    requires { IsOfHead head.now standing.now.published }
-    ensures { (result ≡ reply_to (builder_of head.now standing.now).last text.now) ⊎ ((is_refused_outright text.now ≡ false) × (result ≡ Reply.Memory)) }
+/// The reply of a generation to the text of a query.
+fn reply(alloc: Global, generation: &Generation, text: &str) -> Reply
+    ensures { (result ≡ reply_to generation.now text.now) ⊎ ((is_refused_outright text.now ≡ false) × (result ≡ Reply.Memory)) }
 {
     match read_query(alloc, text) {
-        Ok(query) => reply_of_query(alloc, head, standing, &query),
+        Ok(query) => reply_of_query(alloc, generation, &query),
         Err(Refused::Fault(fault)) => Reply::Unreadable(fault),
         Err(Refused::Memory) => Reply::Memory,
     }
@@ -111,16 +123,17 @@ fn reply(alloc: Global, head: &Head, standing: &Standing, text: &str) -> Reply
 
 /// Takes a feature into a layer, and says what the put answers.
 fn take_feature(
-    table: &mut FeatureTable,
+    builder: &mut Builder,
     layer: u8,
     feature: Feature,
 ) -> Result<Result<Taken, PutFault>, Memory>
-    requires { layer < 16 }
-    ensures answer { IfOk result (λ answer. answer ≡ put_answer table.old layer feature) }
-    ensures table { OnOk result (table.new ≡ put table.old layer feature) }
-    ensures limit { (fault : PutFault) → put_answer table.old layer feature ≡ Err fault → result ≡ Ok (Err fault) }
+    requires { HasPlace builder.old.head layer feature }
+    ensures answer { IfOk result (λ answer. answer ≡ put_answer builder.old.table layer feature) }
+    ensures builder { OnOk result (builder.new ≡ record builder.old { table = put builder.old.table layer feature }) }
+    ensures limit { (fault : PutFault) → put_answer builder.old.table layer feature ≡ Err fault → result ≡ Ok (Err fault) }
 {
-    match table.take(layer, feature) {
+    let _id = feature.id(); // brings the rule of a feature here: it has a tile
+    match builder.take(layer, feature) {
         Ok(taken) => Ok(Ok(taken)),
         Err(Refused::Fault(fault)) => Ok(Err(fault)),
         Err(Refused::Memory) => Err(Memory),
@@ -134,11 +147,11 @@ fn put(
     feature: Feature,
     out: &mut Vec<u8>,
 ) -> Result<(), Memory>
-    requires { layer < 16 }
-    ensures { (loads : Loads) (head : Head) → OnOk result (IsStep loads head (body.Put layer feature) standing.old standing.new out.old.items out.new.items) }
+    requires { HasPlace standing.old.builder.head layer feature }
+    ensures { (loads : Loads) (head : Head) → OnOk result (IsStep loads head (body.Put layer feature) (Some standing.old) (Some standing.new) out.old.items out.new.items) }
 {
     let id = feature.id();
-    let answer = take_feature(&mut standing.table, layer, feature)?;
+    let answer = take_feature(&mut standing.builder, layer, feature)?;
     write_put(out, layer, id, &answer)
 }
 
@@ -149,70 +162,68 @@ fn drop_feature(
     id: u32,
     out: &mut Vec<u8>,
 ) -> Result<(), Memory>
-    ensures { (loads : Loads) (head : Head) → OnOk result (IsStep loads head (body.Drop layer id) standing.old standing.new out.old.items out.new.items) }
+    ensures { (loads : Loads) (head : Head) → OnOk result (IsStep loads head (body.Drop layer id) (Some standing.old) (Some standing.new) out.old.items out.new.items) }
 {
-    let gone = standing.table.drop_feature(layer, id);
+    let gone = standing.builder.drop_feature(layer, id);
     write_drop(out, layer, id, gone)
 }
 
 /// Sets the grid limit of later publications.
 fn set_limit(standing: &mut Standing, n: u64, out: &mut Vec<u8>) -> Result<(), Memory>
-    ensures { (loads : Loads) (head : Head) → OnOk result (IsStep loads head (body.Limit n) standing.old standing.new out.old.items out.new.items) }
+    requires some { 1 ≤ n }
+    requires most { n ≤ 8388608 }
+    ensures { (loads : Loads) (head : Head) → OnOk result (IsStep loads head (body.Limit n) (Some standing.old) (Some standing.new) out.old.items out.new.items) }
 {
-    standing.limit = n;
+    standing.builder.set_limit(n);
     write_limit(out, n)
 }
 
 /// Publishes a generation of the features that stand.
 fn publish(standing: &mut Standing, out: &mut Vec<u8>) -> Result<(), Memory>
-    requires { standing.old.number < 4294967295 }
-    ensures { (loads : Loads) (head : Head) → OnOk result (IsStep loads head body.Publish standing.old standing.new out.old.items out.new.items) }
+    requires few { standing.old.builder.next < 4294967295 }
+    ensures { (loads : Loads) (head : Head) → IsOfSession head (Some standing.old) → OnOk result (IsStep loads head body.Publish (Some standing.old) (Some standing.new) out.old.items out.new.items) }
 {
-    standing.published = standing.table.copy()?;
-    standing.published_limit = standing.limit;
-    standing.number += 1;
-    write_published(out, standing.number)
+    standing.last = standing.builder.make()?;
+    write_published(out, standing.last.number())
 }
 
 /// Answers a query.
 fn ask(
     alloc: Global,
-    head: &Head,
     standing: &mut Standing,
     lane: u8,
     text: &Text,
     out: &mut Vec<u8>,
 ) -> Result<(), Memory>
     requires lane { lane < 8 }
-    requires head { IsOfHead head.now standing.old.published }
     requires few { All (λ n. n < 4294967295) standing.old.asks }
-    ensures { (loads : Loads) → OnOk result (IsStep loads head.now (body.Ask lane text.now) standing.old standing.new out.old.items out.new.items) }
+    ensures { (loads : Loads) (head : Head) → IsOfSession head (Some standing.old) → OnOk result (IsStep loads head (body.Ask lane text.now) (Some standing.old) (Some standing.new) out.old.items out.new.items) }
 {
-    let reply = reply(alloc, head, standing, text.as_str());
+    let reply = reply(alloc, &standing.last, text.as_str());
     let place = standing.asks[lane as usize];
     write_reply(out, lane, place, &reply)?;
     standing.asks[lane as usize] = place + 1;
     Ok(())
 }
 
-/// Fills a layer of the table from a feed that was lent.
+/// Fills a layer of the builder from a feed that was lent.
 fn drain_feed(
     alloc: Global,
     feeds: &mut Vec<Box<dyn Feed>>,
     feed: u32,
     layer: u8,
     head: &Head,
-    table: &mut FeatureTable,
+    builder: &mut Builder,
 ) -> Result<LoadReport, Memory>
     requires feed { feed < length feeds.old.items }
     requires layer { layer < length head.now.layers }
-    requires few { length head.now.layers ≤ 16 }
+    requires head { builder.old.head ≡ head.now }
     ensures loaded { (l : LayerView) → slice_get head.now.layers layer ≡ Some l
-        → IfOk result (λ r. (load : Load) × IsPulled feed load (map (λ b. shows b) feeds.old.items) (map (λ b. shows b) feeds.new.items) × (r ≡ report_of l head.now.langs layer table.old load) × (table.new ≡ after_items l head.now.langs layer table.old load.gave)) }
+        → IfOk result (λ r. (load : Load) × IsPulled feed load (map (λ b. shows b) feeds.old.items) (map (λ b. shows b) feeds.new.items) × (r ≡ report_of l head.now.langs layer builder.old.table load) × (builder.new ≡ record builder.old { table = after_items l head.now.langs layer builder.old.table load.gave })) }
     ensures stopped { OnErr result (MayBePulled (feed ∷ []) (map (λ b. shows b) feeds.old.items) (map (λ b. shows b) feeds.new.items)) }
     ensures count { length feeds.new.items ≡ length feeds.old.items }
 {
-    drain(alloc, &mut feeds[feed as usize], layer, head, table)
+    drain(alloc, &mut feeds[feed as usize], layer, head, builder)
 }
 
 /// Loads a layer from a feed that was lent.
@@ -227,13 +238,13 @@ fn load(
 ) -> Result<(), Memory>
     requires feed { feed < length feeds.old.items }
     requires layer { layer < length head.now.layers }
-    requires few { length head.now.layers ≤ 16 }
+    requires session { IsOfSession head.now (Some standing.old) }
     ensures loaded { OnOk result ((load : Load) × IsPulled feed load (map (λ b. shows b) feeds.old.items) (map (λ b. shows b) feeds.new.items)
-        × ((loads : Loads) → loads feed ≡ load → IsStep loads head.now (body.Load feed layer) standing.old standing.new out.old.items out.new.items)) }
+        × ((loads : Loads) → loads feed ≡ load → IsStep loads head.now (body.Load feed layer) (Some standing.old) (Some standing.new) out.old.items out.new.items)) }
     ensures stopped { OnErr result (MayBePulled (feed ∷ []) (map (λ b. shows b) feeds.old.items) (map (λ b. shows b) feeds.new.items)) }
     ensures count { length feeds.new.items ≡ length feeds.old.items }
 {
-    let report = drain_feed(alloc, feeds, feed, layer, head, &mut standing.table)?;
+    let report = drain_feed(alloc, feeds, feed, layer, head, &mut standing.builder)?;
     write_load(out, feed, layer, &report)
 }
 
@@ -246,9 +257,9 @@ fn answer_line(
     line: BodyLine,
     out: &mut Vec<u8>,
 ) -> Result<(), Memory>
-    requires { (bound : ℕ) × (left : List BodyLine) × (bound ≤ 4294967295) × (length head.now.layers ≤ 16) × IsReady (length feeds.old.items) head.now bound (line ∷ left) standing.old }
+    requires { (bound : ℕ) × (left : List BodyLine) × (bound ≤ 4294967295) × IsReady (length feeds.old.items) head.now bound (line ∷ left) (Some standing.old) }
     ensures answered { OnOk result ((done : RunLoads) × (map (λ d. d.0) done ≡ named_by line) × ArePulled done [] (map (λ b. shows b) feeds.old.items) (map (λ b. shows b) feeds.new.items)
-        × ((loads : Loads) → Agrees loads done → IsStep loads head.now line standing.old standing.new out.old.items out.new.items)) }
+        × ((loads : Loads) → Agrees loads done → IsStep loads head.now line (Some standing.old) (Some standing.new) out.old.items out.new.items)) }
     ensures stopped { OnErr result (MayBePulled (named_by line) (map (λ b. shows b) feeds.old.items) (map (λ b. shows b) feeds.new.items)) }
     ensures count { length feeds.new.items ≡ length feeds.old.items }
 {
@@ -258,15 +269,48 @@ fn answer_line(
         BodyLine::Load { feed, layer } => load(alloc, head, standing, feeds, feed, layer, out),
         BodyLine::Limit { n } => set_limit(standing, n, out),
         BodyLine::Publish => publish(standing, out),
-        BodyLine::Ask { lane, text } => ask(alloc, head, standing, lane, &text, out),
+        BodyLine::Ask { lane, text } => ask(alloc, standing, lane, &text, out),
     }
 }
 
 /// Answers the lines of a round, and gives their text.
-pub fn answer_round(
+fn answer_lines(
     alloc: Global,
     head: &Head,
     standing: &mut Standing,
+    feeds: &mut Vec<Box<dyn Feed>>,
+    round: Round,
+) -> Result<Vec<u8>, Memory>
+    requires { (bound : ℕ) × (bound ≤ 4294967295) × IsReady (length feeds.old.items) head.now bound round (Some standing.old) }
+    ensures answered { IfOk result (λ text. (done : RunLoads) × AreLoaded round done (map (λ b. shows b) feeds.old.items) (map (λ b. shows b) feeds.new.items)
+        × ((loads : Loads) → Agrees loads done → IsAnswered loads head.now round (Some standing.old) (Some standing.new) text.items)) }
+    ensures ready { (bound : ℕ) → IsReady (length feeds.old.items) head.now bound round (Some standing.old) → OnOk result (IsReady (length feeds.old.items) head.now bound [] (Some standing.new)) }
+    ensures stopped { OnErr result (MayBePulled (feeds_named round) (map (λ b. shows b) feeds.old.items) (map (λ b. shows b) feeds.new.items)) }
+    ensures count { length feeds.new.items ≡ length feeds.old.items }
+{
+    let mut out = Vec::new(alloc);
+    for line in round.into_vec() {
+        answer_line(alloc, head, standing, feeds, line, &mut out)?;
+    }
+    Ok(out)
+}
+
+/// What stands, taken out; before the first round it is generation 0, which is made then.
+fn opened(alloc: Global, head: &Head, standing: &mut Option<Standing>) -> Result<Standing, Memory>
+    ensures ready { (feeds bound : ℕ) (round : List BodyLine) → IsReady feeds head.now bound round standing.old → IfOk result (λ s. IsReady feeds head.now bound round (Some s)) }
+    ensures answered { IfOk result (λ s. (loads : Loads) (round : List BodyLine) (new : Stood) (text : List ℕ) → IsAnswered loads head.now round (Some s) new text → IsAnswered loads head.now round standing.old new text) }
+{
+    match standing.take() {
+        Some(now) => Ok(now),
+        None => Standing::new(alloc, head),
+    }
+}
+
+/// Answers the lines of a round, and gives their text; before the first round generation 0 is made.
+pub fn answer_round(
+    alloc: Global,
+    head: &Head,
+    standing: &mut Option<Standing>,
     feeds: &mut Vec<Box<dyn Feed>>,
     round: Round,
 ) -> Result<Vec<u8>, Memory>
@@ -277,10 +321,8 @@ pub fn answer_round(
     ensures stopped { OnErr result (MayBePulled (feeds_named round) (map (λ b. shows b) feeds.old.items) (map (λ b. shows b) feeds.new.items)) }
     ensures count { length feeds.new.items ≡ length feeds.old.items }
 {
-    let _layers = head.layers.len(); // brings the rule of a head here: at most 16 layers
-    let mut out = Vec::new(alloc);
-    for line in round.into_vec() {
-        answer_line(alloc, head, standing, feeds, line, &mut out)?;
-    }
-    Ok(out)
+    let mut now = opened(alloc, head, standing)?;
+    let text = answer_lines(alloc, head, &mut now, feeds, round)?;
+    *standing = Some(now);
+    Ok(text)
 }

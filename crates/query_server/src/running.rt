@@ -25,8 +25,8 @@ use std::alloc::Global;
 pub struct Running {
     /// What was read.
     pub reader: LineReader,
-    /// What the lines of the closed rounds left.
-    pub standing: Standing,
+    /// What the lines of the closed rounds left: nothing before the first.
+    pub standing: Option<Standing>,
     alloc: Global,
 }
 
@@ -39,7 +39,7 @@ impl Running {
     {
         Running {
             reader: LineReader::new(alloc, feeds, kind),
-            standing: Standing::new(alloc),
+            standing: None,
             alloc,
         }
     }

@@ -1,5 +1,6 @@
 -- What the lines of a session's body keep.
 use Rattle.std.proofs.Common.{◌≡◌, ◌==◌, ◌&&◌, ℕ, ◌+◌, ◌<◌, Bool, true, false, nat_lt, nat_le, not, List, [], ◌∷◌, length, is_some, inl, inr, Option, None, Some, Result, Ok, Err, refl, sym, ap, subst, ltb-true, arith}
+use Rattle.std.proofs.lemmas.Bool.{leb-true}
 use Rattle.std.specs.Prelude.{⊤, codes, bytes_eq, count_by, ok_or, if◌then◌else◌, slice_get, take, drop, IfSome, IsSome}
 use Rattle.std.specs.List.{list_all, list_any}
 use Rattle.std.specs.Str.{is_utf8}
@@ -58,7 +59,7 @@ abbrev IsOf : SessionView → BodyLine → Type 0
 IsOf s said = IsLineOf s.feeds s.head said × IsUnnamed s.named said
 
 -- such a line is skipped, a line of the body that keeps what the session asks of it, or the end of a round
-abbrev OfBody : SessionView → Item → Type 0
+abbrev pub OfBody : SessionView → Item → Type 0
 OfBody s Skipped = ⊤
 OfBody s Title = ⊥
 OfBody s (Langs codes) = ⊥
@@ -98,8 +99,9 @@ limit_fits : (s : SessionView) (text : List ℕ) (item : Item) → limit_line te
 limit_fits s text item e =
     let (n, is_n, e₁) = bind_ok (one_number text) _ item e in
     let (u, is_u, e₂) = bind_ok (wanted (nat_le 1 n && nat_le n 8388608) why.Number) _ item e₁ in
+    let (low, high) = and_parts (nat_le 1 n) (nat_le n 8388608) (wanted_ok (nat_le 1 n && nat_le n 8388608) why.Number u is_u) in
     let same : Body (Limit n) ≡ item = cc e₂ in
-    subst (OfBody s) same (tt, tt)
+    subst (OfBody s) same ((leb-true 1 n low, leb-true n 8388608 high), tt)
 
 ask_fits : (s : SessionView) (text : List ℕ) (item : Item) → ask_line s.round text ≡ Ok item → OfBody s item
 ask_fits s text item e =
@@ -205,7 +207,7 @@ unnamed_before s line said e = (fits s line said e).1
 
 -- ---- the head in the body
 
-in_body : (s : SessionView) (line : List ℕ) (item : Item) → s.stage ≡ at.InBody → line_at s line ≡ Ok item → OfBody s item
+pub in_body : (s : SessionView) (line : List ℕ) (item : Item) → s.stage ≡ at.InBody → line_at s line ≡ Ok item → OfBody s item
 in_body s line item stage e = taken s line item (OfBody s) tt (λ says. body_fits s (line_text line) item (subst (λ (st : Stage). staged_line s st (line_text line) ≡ Ok item) stage says)) e
 
 -- where the lines behind a line keep it, that line and they do

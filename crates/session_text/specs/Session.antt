@@ -232,10 +232,11 @@ Fits session (Layer layer) = (length session.head.layers < 16) × (last_zoom ses
 Fits session (Body line) = is_asking line ≡ true → count_by is_asking session.round < 4096
 Fits session item = ⊤
 
--- what each line of the body keeps, where so many feeds are handed in: the layer of a put is one of the head, and the tiles of its feature have its zoom; the feed of a load is one of those, and its layer one of the head; the lane of an ask is below 8
+-- what each line of the body keeps, where so many feeds are handed in: the layer of a put is one of the head, and the tiles of its feature have its zoom; the feed of a load is one of those, and its layer one of the head; a limit is 1 to 8,388,608; the lane of an ask is below 8
 abbrev pub IsLineOf : ℕ → Head → BodyLine → Type 0
 IsLineOf feeds head (Put layer f) = IsSome (slice_get head.layers layer) × IfSome (slice_get head.layers layer) (λ l. All (λ t. t.z ≡ l.zoom) f.tiles)
 IsLineOf feeds head (Load feed layer) = (feed < feeds) × IsSome (slice_get head.layers layer)
+IsLineOf feeds head (Limit n) = (1 ≤ n) × (n ≤ 8388608)
 IsLineOf feeds head (Ask lane text) = lane < 8
 IsLineOf feeds head line = ⊤
 
