@@ -2,9 +2,10 @@
 
 ghost use Rattle.std.specs.Prelude.{◌≡◌, ◌==◌, ◌<◌};
 ghost use Rattle.std.specs.List.{list_all};
-ghost use Rattle.plain_answer.specs.Answering.{IsOfHead};
+ghost use Rattle.feature_reader.specs.Table.{IsOfHead};
 
 use crate::features::{feature_of, place};
+use crate::generations::{generation_of, job_reply};
 use crate::layers::{add_layer, langs_of};
 use crate::queries::query_of;
 use crate::texts::{replace, word};
@@ -69,7 +70,7 @@ fn add(rt: &impl Abort, head: &Head, table: &mut FeatureTable, layer: u8, f: Fea
     }
 }
 
-/// Appends the reply to a query.
+/// Appends the reply to a query by its definition, and compares it with that of a generation of the same features by its job.
 fn push_reply(
     rt: &impl Abort,
     alloc: Global,
@@ -94,7 +95,14 @@ fn push_reply(
         },
         Err(Refused::Memory) => panic!(rt; "want of memory"),
     };
+    let before = out.len();
     write_reply(out, 0, 0, &reply).expect(rt, "memory");
+    let generation = generation_of(rt, alloc, head, table, limit);
+    let mut by_job = Vec::new(alloc);
+    let reply = job_reply(rt, alloc, &generation, &query);
+    write_reply(&mut by_job, 0, 0, &reply).expect(rt, "memory");
+    assert!(rt; out.as_slice().ends_with(by_job.as_slice()));
+    assert_eq!(rt; out.len(), before + by_job.len());
 }
 
 /// A layer of zoom 6 in which `street` is replaced by `st`.
@@ -173,7 +181,7 @@ const ASKS: [(u64, &str); 6] = [
     (2, "main street france"),
     (1, "lang=fr | paris"),
     (1, "lang=en | paris"),
-    (0, "paris"),
+    (1, "paris paris"),
     (180, "springfield"),
     (360, "lang=en | springfield"),
 ];
@@ -187,7 +195,7 @@ ask 0 0 gen 1 found 1
 context 10000/10000 score 0 1:3@6/0/0[0,1)=10000
 ask 0 0 gen 1 found 1
 context 9600/10000 score 0 1:3@6/0/0[0,1)=9600
-ask 0 0 gen 1 grids 1 0
+ask 0 0 gen 1 grids 2 1
 ask 0 0 gen 1 grids 360 180
 ask 0 0 gen 1 found 40
 ";
@@ -212,8 +220,8 @@ fn replacements_languages_and_limits_count(rt: HostRuntime) {
     assert!(rt; out.as_slice() == wanted.as_bytes());
 }
 
-/// A head of 16 layers.
-fn sixteen_layers(rt: &impl Abort, alloc: Global) -> Head {
+/// A head of 16 layers of zoom 6.
+pub fn sixteen_layers(rt: &impl Abort, alloc: Global) -> Head {
     let mut layers = Layers::new(alloc);
     for n in 0..16u8 {
         let text = format!(in alloc; "{{\"name\":\"n{n}\",\"zoom\":6}}").expect(rt, "memory");

@@ -357,7 +357,7 @@ fn large_text(rt: &impl Abort, alloc: Global, id: u32, phrases: u32, tiles: u32)
 }
 
 /// That feature in the layer `place`.
-fn large(rt: &impl Abort, alloc: Global, id: u32, phrases: u32, tiles: u32) -> Feature {
+pub fn large(rt: &impl Abort, alloc: Global, id: u32, phrases: u32, tiles: u32) -> Feature {
     let text = large_text(rt, alloc, id, phrases, tiles);
     match feature_of(
         rt,
@@ -386,7 +386,12 @@ fn a_feature_has_thousands_of_phrases_and_tiles(rt: HostRuntime) {
 }
 
 /// Takes a feature into a layer.
-fn taken<T: Taker>(rt: &impl Abort, taker: &mut T, layer: u8, f: Feature) -> Result<Taken, PutFault>
+pub fn taken<T: Taker>(
+    rt: &impl Abort,
+    taker: &mut T,
+    layer: u8,
+    f: Feature,
+) -> Result<Taken, PutFault>
     requires { T.takes taker.old layer (zoom_of f) ≡ true }
 {
     match taker.take(layer, f) {

@@ -12,11 +12,17 @@ mod features;
 #[cfg(test)]
 mod feeds;
 #[cfg(test)]
+mod generations;
+#[cfg(test)]
+mod grids;
+#[cfg(test)]
 mod layers;
 #[cfg(test)]
 mod lists;
 #[cfg(test)]
 mod members;
+#[cfg(test)]
+mod phrases;
 #[cfg(test)]
 mod queries;
 #[cfg(test)]

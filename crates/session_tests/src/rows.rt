@@ -28,7 +28,7 @@ pub const BASE: &str =
 /// What is written for them.
 pub const BASE_OUT: &str = "put 0 1 new\nput 2 2 new\npublished 1\n";
 
-pub const ROWS: [Row; 37] = [
+pub const ROWS: [Row; 39] = [
     Row {
         name: "a city and its country",
         session: &[(BASE, 0, 0), ("ask 0 new york usa\nend\n", 0, 0)],
@@ -228,6 +228,44 @@ pub const ROWS: [Row; 37] = [
             0,
             0,
         )],
+    },
+    Row {
+        name: "an entry counts for each run that matches it",
+        session: &[
+            (BASE, 0, 0),
+            ("limit 3\npublish\nask 0 usa usa\nend\n", 0, 0),
+        ],
+        status: Status::Done,
+        text: &[
+            (BASE_OUT, 0, 0),
+            ("limit 3\npublished 2\nask 0 0 gen 2 grids 4 3\n", 0, 0),
+        ],
+    },
+    Row {
+        name: "a layer that changes beside one that stays",
+        session: &[
+            (BASE, 0, 0),
+            ("drop 2 2\npublish\nask 0 new york usa\n", 0, 0),
+            (
+                "put 2 {\"type\":\"Feature\",\"id\":2,\"properties\":{\"carmen:text\":\"New York,NYC\",\"carmen:zxy\":[\"6/32/32\"],\"carmen:score\":9,\"carmen:center\":[-73.99,40.73]},\"geometry\":{\"type\":\"Point\",\"coordinates\":[-73.99,40.73]}}\npublish\nask 0 new york usa\nend\n",
+                0,
+                0,
+            ),
+        ],
+        status: Status::Done,
+        text: &[
+            (BASE_OUT, 0, 0),
+            (
+                "drop 2 2 gone\npublished 2\nask 0 0 gen 2 found 1\ncontext 10000/30000 score 0 0:1@6/32/32[2,3)=10000\n",
+                0,
+                0,
+            ),
+            (
+                "put 2 2 new\npublished 3\nask 0 1 gen 3 found 2\ncontext 30000/30000 score 9 2:2@6/32/32[0,2)=20000 0:1@6/32/32[2,3)=10000\ncontext 10000/30000 score 0 0:1@6/32/32[2,3)=10000\n",
+                0,
+                0,
+            ),
+        ],
     },
     Row {
         name: "queries at their limits",

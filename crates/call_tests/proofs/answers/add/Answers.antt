@@ -5,8 +5,8 @@ use Rattle.std.proofs.lemmas.Bool.{eqb-true}
 use Rattle.std.proofs.lemmas.List.Elements.{All-weaker}
 use Rattle.std.proofs.lemmas.List.Sums.{AllPass-from_list_all}
 use Rattle.geo_base.specs.TileView.{TileView}
-use Rattle.plain_answer.specs.Answering.{IsOfHead}
-use Rattle.plain_answer.proofs.OfHead.{put_of_head}
+use Rattle.feature_reader.specs.Table.{IsOfHead}
+use Rattle.feature_reader.proofs.OfHead.{put_of_head}
 use Rattle.call_tests.proofs.answers.add.Goals as goal
 
 pub returns : goal.returns

@@ -1,4 +1,4 @@
-use Rattle.plain_answer.specs.Answering.{IsOfHead}
+use Rattle.feature_reader.specs.Table.{IsOfHead}
 use Rattle.call_tests.proofs.answers.one_each.Given as goal
 
 abbrev pub invariant-loop-n : goal.invariant-loop-n

@@ -1,4 +1,4 @@
-use Rattle.plain_answer.specs.Answering.{IsOfHead}
+use Rattle.feature_reader.specs.Table.{IsOfHead}
 use Rattle.call_tests.proofs.answers.table_of.Given as goal
 
 abbrev pub invariant-loop-id : goal.invariant-loop-id
