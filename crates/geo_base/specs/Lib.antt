@@ -12,6 +12,8 @@ pub mod Best
 pub mod Answer
 pub mod Job
 pub mod CellOrder
+pub mod Parents
 pub mod Examples
 -- for private contracts alone
 pub mod Filled
+pub mod Block

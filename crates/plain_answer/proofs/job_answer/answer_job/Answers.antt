@@ -25,13 +25,13 @@ pub best_contexts-requires-clause-layers : goal.best_contexts-requires-clause-la
 best_contexts-requires-clause-layers g c =
     let cells = g.R.Rows.cells c.args.rows.now in
     let made : c.loop-number.links.items ≡ links_of c.args.job.now.pieces cells = all_made c.args.job.now.pieces cells (links_of c.args.job.now.pieces cells) c.loop-number.links.items c.loop-number.number c.loop-number.invariant.links (search (rules, arith)) in
-    subst (All (λ l. l.layer < 16)) (sym (c.deref-2.ensures.value ∙ made)) (in_16 c.args.job.now cells c.requires.fits.fine)
+    subst (All (λ l. l.layer < 16)) (sym (c.deref-2.ensures.value ∙ made)) (in_16 c.args.job.now cells c.requires.fits.is_job)
 
 pub best_contexts-requires-clause-rising : goal.best_contexts-requires-clause-rising
 best_contexts-requires-clause-rising g c =
     let cells = g.R.Rows.cells c.args.rows.now in
     let made : c.loop-number.links.items ≡ links_of c.args.job.now.pieces cells = all_made c.args.job.now.pieces cells (links_of c.args.job.now.pieces cells) c.loop-number.links.items c.loop-number.number c.loop-number.invariant.links (search (rules, arith)) in
-    subst (AllPairs (λ a b. a.layer ≤ b.layer)) (sym (c.deref-2.ensures.value ∙ made)) (links_rise c.args.job.now cells c.requires.fits.fine)
+    subst (AllPairs (λ a b. a.layer ≤ b.layer)) (sym (c.deref-2.ensures.value ∙ made)) (links_rise c.args.job.now cells c.requires.fits.is_job)
 
 pub returns-clause-answer : goal.returns-clause-answer
 returns-clause-answer g c =
