@@ -1,0 +1,12 @@
+pub mod UnderFacts
+pub mod SurvivorFacts
+pub mod BoundFacts
+pub mod TreeFacts
+pub mod PushedOrder
+pub mod GrowthFacts
+pub mod FilledNumberFacts
+pub mod Numbers
+pub mod RoomFacts
+pub mod OpenFacts
+pub mod RootFacts
+pub mod WalkFacts

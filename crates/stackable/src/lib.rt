@@ -1,0 +1,9 @@
+//! The tree of partials: pieces that may stand below one another, how good what stands below a partial can be,
+//! and how the survivors of a partial grow.
+#![tactic(auto)]
+
+pub mod laws;
+pub mod partial;
+mod room;
+pub mod roots;
+pub mod tree;
