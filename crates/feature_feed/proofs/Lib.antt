@@ -2,7 +2,6 @@ mod CsvFacts
 mod CsvFeedFacts
 mod FeedLines
 mod Filled
-mod FirstFeed
 pub mod ItemZooms
 mod LinesLeft
 mod OneLoad

@@ -4,7 +4,8 @@ use Rattle.std.specs.Io.KnownBytes.{Consumes, IsAtEnd}
 use Rattle.std.specs.Option.{option_map}
 use Rattle.std.specs.Str.Lines.{lines, strip_carriage_return}
 use Rattle.std.proofs.Math.Seq.{take-append-add, take-nil}
-use Rattle.feature_feed.specs.JsonLines.{json_items, NoFeed, bytes_left, lines_left, items_left, onto}
+use Rattle.geo_text.specs.Bytes.{NoLineFeed}
+use Rattle.feature_feed.specs.JsonLines.{json_items, bytes_left, lines_left, items_left, onto}
 use Rattle.feature_feed.proofs.FeedLines.{lines_line, lines_rest}
 
 -- ---- a read
@@ -29,13 +30,13 @@ read_more buffered part room after n (Some x) (Some y) took count none ended mor
 -- ---- a line
 
 -- a line feed has come
-pub line_taken : (buffered line rest text : List ℕ) (room : ℕ) (left : Option (List ℕ)) → NoFeed line → buffered ≡ line ++ 10 ∷ rest → text ≡ strip_carriage_return line → lines_left buffered room left ≡ onto text (lines_left rest room left)
+pub line_taken : (buffered line rest text : List ℕ) (room : ℕ) (left : Option (List ℕ)) → NoLineFeed line → buffered ≡ line ++ 10 ∷ rest → text ≡ strip_carriage_return line → lines_left buffered room left ≡ onto text (lines_left rest room left)
 line_taken buffered line rest text room None none is stripped = refl
 line_taken buffered line rest text room (Some x) none is stripped =
     ap Some (ap (λ l. lines (l ++ take room x)) is ∙ ap lines (append_assoc line (10 ∷ rest) (take room x)) ∙ lines_line line (rest ++ take room x) none ∙ ap (λ l. l ∷ lines (rest ++ take room x)) (sym stripped))
 
 -- nothing comes any more, and there is a byte
-pub last_taken : (buffered text : List ℕ) (room : ℕ) (left : Option (List ℕ)) → NoFeed buffered → text ≡ buffered → room ≡ 0 → (length text == 0) ≡ false → lines_left buffered room left ≡ onto text (lines_left [] room left)
+pub last_taken : (buffered text : List ℕ) (room : ℕ) (left : Option (List ℕ)) → NoLineFeed buffered → text ≡ buffered → room ≡ 0 → (length text == 0) ≡ false → lines_left buffered room left ≡ onto text (lines_left [] room left)
 last_taken buffered text room None none is zero_is some = refl
 last_taken buffered text room (Some x) none is zero_is some =
     ap Some (ap (λ k. lines (buffered ++ take k x)) zero_is ∙ ap lines (append-nil buffered) ∙ lines_rest buffered none ∙ ap (λ l. cond (length l == 0) [] (l ∷ [])) (sym is) ∙ ap (λ b. cond b [] (text ∷ [])) some ∙ ap (λ k. text ∷ lines (take k x)) (sym zero_is))

@@ -1,5 +1,5 @@
 -- The items of lines of JSON.
-use Rattle.std.specs.Prelude.{◌≡◌, ℕ, ◌++◌, ◌==◌, ⊤, Bool, true, false, List, [], ◌∷◌, map, filter, take, Option, Some}
+use Rattle.std.specs.Prelude.{◌≡◌, ℕ, ◌++◌, Bool, true, false, List, [], ◌∷◌, map, filter, take, Option, Some}
 use Rattle.std.specs.Option.{option_map}
 use Rattle.std.specs.Str.Lines.{lines}
 use Rattle.feature_feed.specs.declared.feed.FeedItem.{FeedItem}
@@ -31,11 +31,6 @@ abbrev pub items_left : List ℕ → ℕ → Option (List ℕ) → Option (List 
 items_left buffered room left = option_map json_items (bytes_left buffered room left)
 
 -- ---- for private contracts alone
-
--- there is no line feed among these bytes
-abbrev pub NoFeed : List ℕ → Type 0
-NoFeed [] = ⊤
-NoFeed (b ∷ bs) = ((b == 10) ≡ false) × NoFeed bs
 
 -- the lines of the bytes that are left
 abbrev pub lines_left : List ℕ → ℕ → Option (List ℕ) → Option (List (List ℕ))

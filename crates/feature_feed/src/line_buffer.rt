@@ -1,16 +1,16 @@
 //! Bytes that come in blocks, and the lines in them.
 
-ghost use Rattle.std.specs.Prelude.{◌≡◌, ◌≢◌, ◌≤◌, ◌<◌, ◌++◌, ◌∷◌, ◌+◌, ◌==◌, [], ℕ, List, Some, Err, IfOk, OnOk, OnErr, IsErr, MatchOption, drop, length, position, take};
+ghost use Rattle.std.specs.Prelude.{◌≡◌, ◌≢◌, ◌≤◌, ◌<◌, ◌++◌, ◌∷◌, ◌+◌, [], ℕ, List, Some, Err, IfOk, OnOk, OnErr, IsErr, MatchOption, length, take};
 ghost use Rattle.std.specs.Str.Lines.{strip_carriage_return};
 ghost use Rattle.std.specs.Io.KnownBytes.{Consumes, IsAtEnd, Keeps};
 ghost use Rattle.geo_outside.specs.Device.{Rose};
-ghost use Rattle.feature_feed.specs.JsonLines.{NoFeed};
+ghost use Rattle.geo_text.specs.Bytes.{NoLineFeed};
 
 use crate::feed::FeedError;
 use crate::steady_source::SteadySource;
 use geo_base::refusal::Memory;
 use geo_outside::device::{Failed, Source};
-use memchr::memchr;
+use geo_text::line_feed::next_line;
 use std::alloc::Global;
 use std::marker::Model;
 use std::mem::replace;
@@ -31,30 +31,13 @@ pub struct LineBuffer {
 
 impl Model for LineBuffer {
     ghost use Rattle.std.specs.Prelude.{◌≤◌, ◌<◌, ◌++◌, List, ℕ, length, slice_range};
-    ghost use Rattle.feature_feed.specs.JsonLines.{NoFeed};
+    ghost use Rattle.geo_text.specs.Bytes.{NoLineFeed};
 
     ghost Value = { List ℕ };
 
     ghost view = { λ b. b.begun.items ++ slice_range b.block.items b.from b.end };
 
-    ghost invariant = { λ b. NoFeed b.begun.items × (b.from ≤ b.end) × (b.end ≤ length b.block.items) × (0 < length b.block.items) };
-}
-
-/// The place of the first line feed.
-fn place_of(bytes: &[u8]) -> Option<usize>
-    ensures { result ≡ position (λ b. b == 10) bytes.now }
-{
-    memchr(b'\n', bytes)
-}
-
-/// What stands before the first line feed; None where there is none.
-fn first_line(bytes: &[u8]) -> Option<&[u8]>
-    ensures { MatchOption result (NoFeed bytes.now) (λ p. NoFeed p.now × (bytes.now ≡ p.now ++ 10 ∷ drop (length p.now + 1) bytes.now)) }
-{
-    match place_of(bytes) {
-        Some(at) => Some(&bytes[..at]),
-        None => None,
-    }
+    ghost invariant = { λ b. NoLineFeed b.begun.items × (b.from ≤ b.end) × (b.end ≤ length b.block.items) × (0 < length b.block.items) };
 }
 
 /// Reads at most so many bytes into the front of a block, and says how many.
@@ -102,10 +85,10 @@ impl LineBuffer {
     /// Takes the first line that a line feed ends, and gives it without that and without one carriage return before it; None
     /// where no line feed has come.
     pub fn line(&mut self) -> Result<Option<Vec<u8>>, Memory>
-        ensures line { IfOk result (λ o. MatchOption o (NoFeed self.old × (self.new ≡ self.old)) (λ text. (line : List ℕ) × NoFeed line × (self.old ≡ line ++ 10 ∷ self.new) × (text.items ≡ strip_carriage_return line))) }
+        ensures line { IfOk result (λ o. MatchOption o (NoLineFeed self.old × (self.new ≡ self.old)) (λ text. (line : List ℕ) × NoLineFeed line × (self.old ≡ line ++ 10 ∷ self.new) × (text.items ≡ strip_carriage_return line))) }
         ensures memory { OnErr result (self.new ≡ self.old) }
     {
-        let Some(part) = first_line(&self.block[self.from..self.end]) else {
+        let Some((part, _behind)) = next_line(&self.block[self.from..self.end]) else {
             return Ok(None);
         };
         let taken = part.len() + 1;
@@ -133,7 +116,7 @@ impl LineBuffer {
         source: &mut SteadySource<S>,
         most: usize,
     ) -> Result<usize, FeedError>
-        requires open { NoFeed self.old }
+        requires open { NoLineFeed self.old }
         requires some { 0 < most }
         ensures more { IfOk result (λ n. (part : List ℕ) × Consumes source.old.left source.new.left part × (self.new ≡ self.old ++ part) × (length part ≡ n) × (n ≤ most) × (n ≡ 0 → IsAtEnd source.new.left)) }
         ensures same { OnErr result ((self.new ≡ self.old) × Keeps source.old.left source.new.left) }

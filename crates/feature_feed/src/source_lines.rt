@@ -3,7 +3,8 @@
 ghost use Rattle.std.specs.Prelude.{◌≡◌, ◌≢◌, ◌≤◌, ◌<◌, ◌+◌, [], Err, IfOk, IfSome, OnOk, OnErr, MatchOption, length};
 ghost use Rattle.geo_outside.specs.Device.{Rose};
 ghost use Rattle.feature_feed.specs.Feed.{most_bytes};
-ghost use Rattle.feature_feed.specs.JsonLines.{NoFeed, bytes_left, lines_left, items_left, onto, IsNoneLeft};
+ghost use Rattle.geo_text.specs.Bytes.{NoLineFeed};
+ghost use Rattle.feature_feed.specs.JsonLines.{bytes_left, lines_left, items_left, onto, IsNoneLeft};
 ghost use Rattle.feature_feed.specs.declared.feed.FeedItem.TheVariants as item;
 
 use crate::feed::{FeedError, MOST_BYTES};
@@ -48,7 +49,7 @@ impl<S: Source + Drop> SourceLines<S> {
 
     /// Reads more of the source.
     fn read(&mut self) -> Result<(), FeedError>
-        requires open { NoFeed self.old.buffer }
+        requires open { NoLineFeed self.old.buffer }
         requires room { 0 < self.old.room }
         ensures bytes { bytes_left self.new.buffer self.new.room self.new.source.left ≡ bytes_left self.old.buffer self.old.room self.old.source.left }
         ensures fewer { OnOk result ((self.new.room < self.old.room) × (self.new.room + length self.new.buffer ≤ self.old.room + length self.old.buffer)) }
@@ -63,7 +64,7 @@ impl<S: Source + Drop> SourceLines<S> {
 
     /// Takes what has come of a last line that no line feed ends.
     fn last(&mut self) -> Result<Option<Vec<u8>>, FeedError>
-        requires open { NoFeed self.old.buffer }
+        requires open { NoLineFeed self.old.buffer }
         requires room { self.old.room ≡ 0 }
         ensures line { let before = lines_left self.old.buffer self.old.room self.old.source.left in let after = lines_left self.new.buffer self.new.room self.new.source.left in
             IfOk result (λ o. MatchOption o (IsNoneLeft before after) (λ text. before ≡ onto text.items after)) }

@@ -1,8 +1,10 @@
 pub mod Ascii
 pub mod AsciiTokens
+mod FirstByte
 pub mod FirstPlace
 mod Joins
 mod KeyTokens
+pub mod LineFeeds
 pub mod Lists
 pub mod Replaced
 pub mod SplitParts

@@ -1,4 +1,5 @@
 pub mod Normal
+pub mod Bytes
 pub mod Words
 pub mod Tokens
 pub mod Parts

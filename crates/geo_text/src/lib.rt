@@ -1,8 +1,10 @@
-//! Texts: their normal form and tokens, the replacement of tokens, numbers as digits, and cutting texts into words.
+//! Texts: their normal form and tokens, the replacement of tokens, numbers as digits, and cutting texts into lines and
+//! words.
 #![tactic(auto)]
 
 pub mod cut;
 pub mod laws;
+pub mod line_feed;
 pub mod normalizer;
 pub mod number;
 pub mod text;

@@ -2,7 +2,6 @@ mod Answered
 mod Drained
 mod Fed
 mod FedBy
-mod FirstFeed
 mod Kept
 mod Lines
 mod Moves

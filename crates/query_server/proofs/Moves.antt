@@ -11,7 +11,9 @@ use Rattle.feature_feed.specs.Feed.{FeedView}
 use Rattle.feature_feed.specs.Load.{Loads}
 use Rattle.feature_feed.specs.Load as given
 use Rattle.session_text.specs.Lines.{longest, line_text}
-use Rattle.session_text.specs.Reading.{NoFeed, Ending, Reading, at_end_line, at_bad_line, unended, stopped, with_rounds, after_step, reading_after, reading_from, reading_on, reading, lines_of, lines_of_rounds, feeds_named}
+use Rattle.geo_text.specs.Bytes.{NoLineFeed}
+use Rattle.geo_text.proofs.LineFeeds.{no_line_feed_append}
+use Rattle.session_text.specs.Reading.{Ending, Reading, at_end_line, at_bad_line, unended, stopped, with_rounds, after_step, reading_after, reading_from, reading_on, reading, lines_of, lines_of_rounds, feeds_named}
 use Rattle.session_text.specs.Session.{SessionView, IsLineOf, start, already, line_at, after_item, step_of, named_by}
 use Rattle.session_text.specs.declared.body.BodyLine.{BodyLine}
 use Rattle.session_text.specs.declared.item.Item.{Item}
@@ -24,7 +26,7 @@ use Rattle.session_text.specs.declared.status.Status.TheVariants.{BadLine, Unend
 use Rattle.session_text.specs.declared.status.Status.TheVariants as ends_by
 use Rattle.session_text.specs.declared.why.Why.{Why}
 use Rattle.session_text.specs.declared.why.Why.TheVariants as faults
-use Rattle.session_text.proofs.Advance.{joins, goes_on, closes, ends, refuses, too_long, no_end, at_end, with_rounds_twice, no_feed_append}
+use Rattle.session_text.proofs.Advance.{joins, goes_on, closes, ends, refuses, too_long, no_end, at_end, with_rounds_twice}
 use Rattle.session_text.proofs.Bodies.{reading_head, stage_after, last_after, feeds_after}
 use Rattle.query_server.specs.Generations.{BuilderState, new_builder}
 use Rattle.query_server.specs.Plain.{no_asks, IsPlainText}
@@ -196,11 +198,11 @@ abbrev pub IsNext : LineReader → LineReader → Type 0
 IsNext r q = (q.line ≡ r.line + 1) × (q.begun.items ≡ [])
 
 -- the whole line has no line feed
-whole_line : (count : ℕ) (old : Running) (part : List ℕ) → IsUnderWay count old → NoFeed part → NoFeed (old.reader.begun.items ++ part)
-whole_line count old part fit none = no_feed_append old.reader.begun.items part fit.one_line none
+whole_line : (count : ℕ) (old : Running) (part : List ℕ) → IsUnderWay count old → NoLineFeed part → NoLineFeed (old.reader.begun.items ++ part)
+whole_line count old part fit none = no_line_feed_append old.reader.begun.items part fit.one_line none
 
 -- it closes no round
-pub more_at : (kind : Kind) (views : List FeedView) (bytes written part : List ℕ) (now : List FeedView) (done : RunLoads) (count : ℕ) (old : Running) (q : LineReader) → IsUnderWay count old → NoFeed part → Took old.reader q part More → IsNext old.reader q
+pub more_at : (kind : Kind) (views : List FeedView) (bytes written part : List ℕ) (now : List FeedView) (done : RunLoads) (count : ℕ) (old : Running) (q : LineReader) → IsUnderWay count old → NoLineFeed part → Took old.reader q part More → IsNext old.reader q
     → IsAt kind views bytes written now done old → IsAt kind views (bytes ++ part ++ 10 ∷ []) written now done (record old { reader = q })
 more_at kind views bytes written part now done count old q fit none took next here =
     let (item, is, does, after) = took in
@@ -218,7 +220,7 @@ more_fits count old q part fit took next =
     let s = old.reader.session in
     let ready = ready_after s old.reader.line (old.reader.begun.items ++ part) item old.standing fit.begun is (sym does) (subst (λ n. IsReady n s.head old.reader.line s.round old.standing) (sym fit.lent) fit.ready) in
     record {
-      one_line = subst NoFeed (sym next.1) tt;
+      one_line = subst NoLineFeed (sym next.1) tt;
       short = subst (λ (l : List ℕ). length l ≤ longest) (sym next.1) (omega arith);
       sound = subst (λ (x : SessionView). already x.stage ≡ Ok tt) (sym after) (sound_after s item fit.sound);
       running = subst (λ (x : SessionView). x.stage ≢ at.Ended) (sym after) (open_after s item (sym does) fit.running);
@@ -261,7 +263,7 @@ pub last_can : (count : ℕ) (old : Running) (q : LineReader) (part : List ℕ) 
 last_can count old q part round fit took = let facts = last_is old.reader q part round took in can_answer count old q round fit facts.0 facts.1
 
 -- it was answered, or the call ended there
-goes_from_ready : (kind : Kind) (views : List FeedView) (bytes written part put : List ℕ) (now after_feeds : List FeedView) (done : RunLoads) (count : ℕ) (old new : Running) (round : List BodyLine) (o : Option Status) → IsUnderWay count old → NoFeed part
+goes_from_ready : (kind : Kind) (views : List FeedView) (bytes written part put : List ℕ) (now after_feeds : List FeedView) (done : RunLoads) (count : ℕ) (old new : Running) (round : List BodyLine) (o : Option Status) → IsUnderWay count old → NoLineFeed part
     → Took old.reader new.reader part (Ready round) → IsNext old.reader new.reader → IsRoundWritten new.reader.session.head round old.standing new.standing now after_feeds o put → IsAt kind views bytes written now done old
     → GoesOnOrEnds kind views (bytes ++ part ++ 10 ∷ []) (written ++ put) after_feeds done o new
 goes_from_ready kind views bytes written part put now after_feeds done count old new round o fit none took next about here =
@@ -287,7 +289,7 @@ goes_from_ready kind views bytes written part put now after_feeds done count old
     by (Some status) (more, others, named, pulled, cut) heads b =
         cut_stops kind views (bytes ++ part ++ 10 ∷ []) written put now after_feeds done more others here.rounds round new.reader.session.head old.standing status (λ ended more. reading_here new.reader ended more) heads b named pulled cut
 
-pub ready_goes : (kind : Kind) (views : List FeedView) (bytes written part put : List ℕ) (now after_feeds : List FeedView) (done : RunLoads) (count : ℕ) (old new : Running) (q : LineReader) (round : List BodyLine) (o : Option Status) → IsUnderWay count old → NoFeed part
+pub ready_goes : (kind : Kind) (views : List FeedView) (bytes written part put : List ℕ) (now after_feeds : List FeedView) (done : RunLoads) (count : ℕ) (old new : Running) (q : LineReader) (round : List BodyLine) (o : Option Status) → IsUnderWay count old → NoLineFeed part
     → Took old.reader q part (Ready round) → IsNext old.reader q → new.reader ≡ q → IsRoundWritten q.session.head round old.standing new.standing now after_feeds o put → IsAt kind views bytes written now done old
     → GoesOnOrEnds kind views (bytes ++ part ++ 10 ∷ []) (written ++ put) after_feeds done o new
 ready_goes kind views bytes written part put now after_feeds done count old new q round o fit none took next same about here =
@@ -302,7 +304,7 @@ fits_from_ready count old new part round fit took next ready =
     let facts = ready_is old.reader q part round took in
     let (item, is, does, after) = took in
     record {
-      one_line = subst NoFeed (sym next.1) tt;
+      one_line = subst NoLineFeed (sym next.1) tt;
       short = subst (λ (l : List ℕ). length l ≤ longest) (sym next.1) (omega arith);
       sound = ap already facts.0;
       running = λ e. let bad : at.InBody ≡ at.Ended = sym facts.0 ∙ e in absurd (cc bad);
@@ -319,7 +321,7 @@ ready_fits count old new q part round fit took next same ready =
     subst (λ (x : LineReader). Took old.reader x part (Ready round) → IsNext old.reader x → IsReady count x.session.head old.reader.line [] new.standing → IsUnderWay count new) same (fits_from_ready count old new part round fit) took next ready
 
 -- the last one was answered, or the call ended there
-stops_from_last : (kind : Kind) (views : List FeedView) (bytes written part put : List ℕ) (now after_feeds : List FeedView) (done : RunLoads) (count : ℕ) (old new : Running) (round : List BodyLine) (o : Option Status) → IsUnderWay count old → NoFeed part
+stops_from_last : (kind : Kind) (views : List FeedView) (bytes written part put : List ℕ) (now after_feeds : List FeedView) (done : RunLoads) (count : ℕ) (old new : Running) (round : List BodyLine) (o : Option Status) → IsUnderWay count old → NoLineFeed part
     → Took old.reader new.reader part (Last round) → IsRoundWritten new.reader.session.head round old.standing new.standing now after_feeds o put → IsAt kind views bytes written now done old
     → IsStopped kind views (bytes ++ part ++ 10 ∷ []) (written ++ put) after_feeds done (unwrap_or o ends_by.Done)
 stops_from_last kind views bytes written part put now after_feeds done count old new round o fit none took about here =
@@ -340,7 +342,7 @@ stops_from_last kind views bytes written part put now after_feeds done count old
     by (Some status) (more, others, named, pulled, cut) s heads b =
         cut_stops kind views (bytes ++ part ++ 10 ∷ []) written put now after_feeds done more others here.rounds round new.reader.session.head old.standing status (λ ended more. stopped s [] at_end_line) heads b named pulled cut
 
-pub last_stops : (kind : Kind) (views : List FeedView) (bytes written part put : List ℕ) (now after_feeds : List FeedView) (done : RunLoads) (count : ℕ) (old new : Running) (q : LineReader) (round : List BodyLine) (o : Option Status) → IsUnderWay count old → NoFeed part
+pub last_stops : (kind : Kind) (views : List FeedView) (bytes written part put : List ℕ) (now after_feeds : List FeedView) (done : RunLoads) (count : ℕ) (old new : Running) (q : LineReader) (round : List BodyLine) (o : Option Status) → IsUnderWay count old → NoLineFeed part
     → Took old.reader q part (Last round) → new.reader ≡ q → IsRoundWritten q.session.head round old.standing new.standing now after_feeds o put → IsAt kind views bytes written now done old
     → IsStopped kind views (bytes ++ part ++ 10 ∷ []) (written ++ put) after_feeds done (unwrap_or o ends_by.Done)
 last_stops kind views bytes written part put now after_feeds done count old new q round o fit none took same about here =
@@ -352,7 +354,7 @@ last_stops kind views bytes written part put now after_feeds done count old new 
 -- ---- a line that isn't taken
 
 -- it is refused
-pub fault_stops : (kind : Kind) (views : List FeedView) (bytes written part : List ℕ) (now : List FeedView) (done : RunLoads) (count : ℕ) (old : Running) (n : ℕ) (why : Why) → IsUnderWay count old → NoFeed part
+pub fault_stops : (kind : Kind) (views : List FeedView) (bytes written part : List ℕ) (now : List FeedView) (done : RunLoads) (count : ℕ) (old : Running) (n : ℕ) (why : Why) → IsUnderWay count old → NoLineFeed part
     → line_at old.reader.session (old.reader.begun.items ++ part) ≡ Err why → n ≡ old.reader.line → IsAt kind views bytes written now done old → IsStopped kind views (bytes ++ part ++ 10 ∷ []) written now done (BadLine n why)
 fault_stops kind views bytes written part now done count old n why fit none is of_line here =
     let s = old.reader.session in
@@ -377,10 +379,10 @@ part_at kind views bytes written part now done old q of_begun of_session of_line
     (λ ended more. sym (same_here q.session r.session q.line r.line q.begun.items (r.begun.items ++ part) of_session of_line of_begun ended more)) (came kind views bytes written part now done old here) in
     record { rounds = here.rounds; loaded = b.loaded; reads = b.reads; answered = b.answered }
 
-pub part_fits : (count : ℕ) (old : Running) (q : LineReader) (part : List ℕ) → IsUnderWay count old → NoFeed part → q.begun.items ≡ old.reader.begun.items ++ part → length q.begun.items ≤ longest → q.session ≡ old.reader.session → q.line ≡ old.reader.line
+pub part_fits : (count : ℕ) (old : Running) (q : LineReader) (part : List ℕ) → IsUnderWay count old → NoLineFeed part → q.begun.items ≡ old.reader.begun.items ++ part → length q.begun.items ≤ longest → q.session ≡ old.reader.session → q.line ≡ old.reader.line
     → IsUnderWay count (record old { reader = q })
 part_fits count old q part fit none of_begun short of_session of_line = record {
-  one_line = subst NoFeed (sym of_begun) (whole_line count old part fit none);
+  one_line = subst NoLineFeed (sym of_begun) (whole_line count old part fit none);
   short = short;
   sound = subst (λ (x : SessionView). already x.stage ≡ Ok tt) (sym of_session) fit.sound;
   running = subst (λ (x : SessionView). x.stage ≢ at.Ended) (sym of_session) fit.running;
@@ -392,7 +394,7 @@ part_fits count old q part fit none of_begun short of_session of_line = record {
 }
 
 -- it is too long
-pub long_stops : (kind : Kind) (views : List FeedView) (bytes written part : List ℕ) (now : List FeedView) (done : RunLoads) (count : ℕ) (old : Running) (n : ℕ) (why : Why) → IsUnderWay count old → NoFeed part → why ≡ faults.Long
+pub long_stops : (kind : Kind) (views : List FeedView) (bytes written part : List ℕ) (now : List FeedView) (done : RunLoads) (count : ℕ) (old : Running) (n : ℕ) (why : Why) → IsUnderWay count old → NoLineFeed part → why ≡ faults.Long
     → longest < length (old.reader.begun.items ++ part) → n ≡ old.reader.line → IsAt kind views bytes written now done old → IsStopped kind views (bytes ++ part) written now done (BadLine n why)
 long_stops kind views bytes written part now done count old n why fit none of_why long of_line here =
     let s = old.reader.session in
@@ -447,7 +449,7 @@ nothing_stands feeds head = record {
 
 pub begins_fit : (kind : Kind) (feeds : ℕ) (r : Running) → r.reader.session ≡ start feeds kind → r.reader.line ≡ 1 → r.reader.begun.items ≡ [] → r.standing ≡ None → IsUnderWay feeds r
 begins_fit kind feeds r of_session of_line of_begun nothing = record {
-  one_line = subst NoFeed (sym of_begun) tt;
+  one_line = subst NoLineFeed (sym of_begun) tt;
   short = subst (λ (l : List ℕ). length l ≤ longest) (sym of_begun) (omega arith);
   sound = subst (λ (x : SessionView). already x.stage ≡ Ok tt) (sym of_session) refl;
   running = subst (λ (x : SessionView). x.stage ≢ at.Ended) (sym of_session) (λ e. cc e);
@@ -461,7 +463,7 @@ begins_fit kind feeds r of_session of_line of_begun nothing = record {
 -- ---- at the end of the source
 
 -- a line feed behind a last line `end` changes nothing
-feed_at_end : (s : SessionView) (n : ℕ) (begun : List ℕ) → NoFeed begun → bytes_eq (line_text begun) (codes "end") ≡ true → reading_on s n begun true (10 ∷ []) ≡ reading_on s n begun true []
+feed_at_end : (s : SessionView) (n : ℕ) (begun : List ℕ) → NoLineFeed begun → bytes_eq (line_text begun) (codes "end") ≡ true → reading_on s n begun true (10 ∷ []) ≡ reading_on s n begun true []
 feed_at_end s n begun none is = by (line_at s begun) refl ∙ sym (at_end s n begun none is)
   where
     does : (item : Item) (step : Step) → line_at s begun ≡ Ok item → step_of s.round item ≡ step

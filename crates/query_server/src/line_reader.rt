@@ -1,9 +1,8 @@
 //! The lines of a source's bytes, each taken by the session when it ends.
 
-ghost use Rattle.std.specs.Prelude.{◌≡◌, ◌≢◌, ◌<◌, ◌≤◌, ◌+◌, ◌++◌, ◌∷◌, ◌==◌, [], List, bytes_eq, codes, length, position, MatchOption, IfOk, OnOk, Ok, Err};
+ghost use Rattle.std.specs.Prelude.{◌≡◌, ◌≢◌, ◌<◌, ◌≤◌, ◌+◌, ◌++◌, [], bytes_eq, codes, length, IfOk, OnOk, Ok, Err};
 ghost use Rattle.geo_base.specs.declared.refusal.Refused.TheVariants as refused;
 ghost use Rattle.session_text.specs.Lines.{longest, line_text};
-ghost use Rattle.session_text.specs.Reading.{NoFeed};
 ghost use Rattle.session_text.specs.Session.{start, line_at, after_item, step_of};
 ghost use Rattle.session_text.specs.declared.item.Item.{Item};
 ghost use Rattle.session_text.specs.declared.session.Stage.TheVariants as at;
@@ -11,7 +10,6 @@ ghost use Rattle.session_text.specs.declared.why.Why.{Why};
 ghost use Rattle.session_text.specs.declared.why.Why.TheVariants as faults;
 
 use geo_base::refusal::Refused;
-use memchr::memchr;
 use session_text::session::{Kind, Session, Step};
 use session_text::why::Why;
 use std::alloc::Global;
@@ -28,23 +26,6 @@ pub struct LineReader {
     pub line: u64,
     /// What has come of that line.
     pub begun: Vec<u8>,
-}
-
-/// The place of the first line feed.
-fn place_of(bytes: &[u8]) -> Option<usize>
-    ensures { result ≡ position (λ b. b == 10) bytes.now }
-{
-    memchr(b'\n', bytes)
-}
-
-/// What stands before the first line feed, and what stands behind it; None where there is none.
-pub fn next_line(bytes: &[u8]) -> Option<(&[u8], &[u8])>
-    ensures { MatchOption result (NoFeed bytes.now) (λ p. NoFeed p.0.now × (bytes.now ≡ p.0.now ++ 10 ∷ p.1.now)) }
-{
-    match place_of(bytes) {
-        Some(at) => Some((&bytes[..at], &bytes[at + 1..])),
-        None => None,
-    }
 }
 
 impl LineReader {

@@ -1,72 +1,25 @@
 -- How the reading of a session goes on, line by line.
-use Rattle.std.proofs.Common.{◌≡◌, ◌∙◌, ◌+◌, ◌<◌, ◌≤◌, ℕ, zero, suc, Bool, true, false, List, [], ◌∷◌, ◌++◌, length, take, drop, get_or, nat_lt, None, Some, Ok, Err, refl, sym, ap, append_assoc, append-nil, add-one, arith, lt-ltb, ◌==◌}
-use Rattle.std.specs.Prelude.{position, bytes_eq, codes}
-use Rattle.std.specs.List.{slice_split, position_or_len}
-use Rattle.std.proofs.lemmas.Bool.{le-ltb, lt-leb, ltb-false, eqb-true}
+use Rattle.std.proofs.Common.{◌≡◌, ◌∙◌, ◌+◌, ◌<◌, ◌≤◌, ℕ, Bool, true, false, List, [], ◌∷◌, ◌++◌, length, nat_lt, Ok, Err, refl, sym, ap, append_assoc, append-nil, arith, lt-ltb}
+use Rattle.std.specs.Prelude.{bytes_eq, codes}
+use Rattle.std.specs.List.{slice_split}
+use Rattle.std.proofs.lemmas.Bool.{le-ltb, lt-leb}
 use Rattle.std.proofs.lemmas.List.{length-append}
-use Rattle.std.proofs.lemmas.List.Quantifiers.{position-Some}
-use Rattle.std.proofs.lemmas.List.Sums.{fails_before_first}
+use Rattle.geo_text.specs.Bytes.{NoLineFeed}
+use Rattle.geo_text.proofs.LineFeeds.{is_line_feed, split_line, split_rest}
 use Rattle.geo_text.proofs.SplitParts.{some_part}
 use Rattle.session_text.specs.Lines.{longest, line_text}
 use Rattle.session_text.specs.Session.{SessionView, line_at, already, after_item, step_of}
-use Rattle.session_text.specs.Reading.{NoFeed, last_line, lines_in, lines_of, at_end_line, at_bad_line, unended, Reading, stopped, with_rounds, after_step, reading_after, reading_from, reading_on}
+use Rattle.session_text.specs.Reading.{last_line, lines_in, lines_of, at_end_line, at_bad_line, unended, Reading, stopped, with_rounds, after_step, reading_after, reading_from, reading_on}
 use Rattle.session_text.specs.declared.body.BodyLine.{BodyLine}
 use Rattle.session_text.specs.declared.item.Item.{Item}
 use Rattle.session_text.specs.declared.session.Step.TheVariants.{More, Ready, Last}
 use Rattle.session_text.specs.declared.why.Why.{Why}
 use Rattle.session_text.specs.declared.why.Why.TheVariants as why
 
-abbrev feeds : ℕ → Bool
-feeds b = b == 10
-
--- ---- bytes without a line feed
-
-pub no_feed_append : (xs ys : List ℕ) → NoFeed xs → NoFeed ys → NoFeed (xs ++ ys)
-no_feed_append [] ys one two = two
-no_feed_append (x ∷ xs) ys one two = (one.0, no_feed_append xs ys one.1 two)
-
--- where no byte is one
-none_is : (xs : List ℕ) → ((k : ℕ) → k < length xs → feeds (get_or xs k 0) ≡ false) → NoFeed xs
-none_is [] fails = tt
-none_is (x ∷ xs) fails = (fails zero (omega arith), none_is xs (λ k lt. fails (suc k) (omega (arith, lt))))
-
--- where the first one is
-first_is : (xs : List ℕ) (k : ℕ) → k < length xs → feeds (get_or xs k 0) ≡ true → ((j : ℕ) → j < k → feeds (get_or xs j 0) ≡ false) → NoFeed (take k xs) × (xs ≡ take k xs ++ 10 ∷ drop (suc k) xs)
-first_is [] k within here before = absurd (omega (arith, within))
-first_is (x ∷ xs) zero within here before = (tt, ap (λ b. b ∷ xs) (eqb-true x 10 here))
-first_is (x ∷ xs) (suc k) within here before =
-    let more = first_is xs k (omega (arith, within)) here (λ j lt. before (suc j) (omega (arith, lt))) in
-    ((before zero (omega arith), more.0), ap (λ l. x ∷ l) more.1)
-
--- up to the first line feed there is none, and what follows it comes after it
-pub at_feed : (xs : List ℕ) (k : ℕ) → position (λ b. b == 10) xs ≡ Some k → NoFeed (take k xs) × (xs ≡ take k xs ++ 10 ∷ drop (k + 1) xs)
-at_feed xs k is =
-    let found = position-Some (λ b. b == 10) xs k 0 is in
-    let both = first_is xs k found.0 found.1 found.2 in
-    (both.0, both.1 ∙ ap (λ i. take k xs ++ 10 ∷ drop i xs) (sym (add-one k)))
-
--- where no line feed is found there is none
-pub no_feed : (xs : List ℕ) → position (λ b. b == 10) xs ≡ None → NoFeed xs
-no_feed xs is = by (nat_lt (position_or_len feeds xs) (length xs)) refl
-  where
-    by : (b : Bool) → nat_lt (position_or_len feeds xs) (length xs) ≡ b → NoFeed xs
-    by true e = let bad : Some (position_or_len feeds xs) ≡ None = sym (rw e refl) ∙ is in absurd (cc bad)
-    by false e = none_is xs (λ k lt. fails_before_first feeds xs k 0 (omega (arith, lt, ltb-false _ _ e)))
-
 -- ---- the parts between line feeds
 
--- a line feed ends what has come of a line
-split_line : (xs more : List ℕ) → NoFeed xs → slice_split feeds (xs ++ 10 ∷ more) ≡ xs ∷ slice_split feeds more
-split_line [] more none = refl
-split_line (x ∷ xs) more none = rw (none.0, split_line xs more none.1) refl
-
--- without one there is one part
-split_rest : (xs : List ℕ) → NoFeed xs → slice_split feeds xs ≡ xs ∷ []
-split_rest [] none = refl
-split_rest (x ∷ xs) none = rw (none.0, split_rest xs none.1) refl
-
 -- what has come of a line begins the first part
-split_onto : (xs more y : List ℕ) (ys : List (List ℕ)) → NoFeed xs → slice_split feeds more ≡ y ∷ ys → slice_split feeds (xs ++ more) ≡ (xs ++ y) ∷ ys
+split_onto : (xs more y : List ℕ) (ys : List (List ℕ)) → NoLineFeed xs → slice_split is_line_feed more ≡ y ∷ ys → slice_split is_line_feed (xs ++ more) ≡ (xs ++ y) ∷ ys
 split_onto [] more y ys none is = is
 split_onto (x ∷ xs) more y ys none is = rw (none.0, split_onto xs more y ys none.1 is) refl
 
@@ -74,10 +27,10 @@ lines_in_cons : (ended : Bool) (x : List ℕ) (parts : List (List ℕ)) (y : Lis
 lines_in_cons ended x parts y ys is = rw is refl
 
 -- the first line, and the lines of what follows
-lines_of_line : (ended : Bool) (xs more : List ℕ) → NoFeed xs → lines_of ended (xs ++ 10 ∷ more) ≡ xs ∷ lines_of ended more
+lines_of_line : (ended : Bool) (xs more : List ℕ) → NoLineFeed xs → lines_of ended (xs ++ 10 ∷ more) ≡ xs ∷ lines_of ended more
 lines_of_line ended xs more none =
-    let next = some_part feeds more in
-    ap (lines_in ended) (split_line xs more none) ∙ lines_in_cons ended xs (slice_split feeds more) next.0 next.1 next.2
+    let next = some_part is_line_feed more in
+    ap (lines_in ended) (split_line xs more none) ∙ lines_in_cons ended xs (slice_split is_line_feed more) next.0 next.1 next.2
 
 -- ---- one line
 
@@ -86,35 +39,35 @@ pub joins : (s : SessionView) (n : ℕ) (begun part : List ℕ) (ended : Bool) (
 joins s n begun part ended more = ap (λ l. reading_from s n (lines_of ended l)) (sym (append_assoc begun part more))
 
 -- a line feed: the line is read, and then what follows
-at_line : (s : SessionView) (n : ℕ) (line : List ℕ) (ended : Bool) (more : List ℕ) → NoFeed line → reading_on s n line ended (10 ∷ more) ≡ reading_from s n (line ∷ lines_of ended more)
+at_line : (s : SessionView) (n : ℕ) (line : List ℕ) (ended : Bool) (more : List ℕ) → NoLineFeed line → reading_on s n line ended (10 ∷ more) ≡ reading_from s n (line ∷ lines_of ended more)
 at_line s n line ended more none = ap (reading_from s n) (lines_of_line ended line more none)
 
 -- the same for a line that says this
-at_item : (s : SessionView) (n : ℕ) (line : List ℕ) (item : Item) (ended : Bool) (more : List ℕ) → NoFeed line → line_at s line ≡ Ok item
+at_item : (s : SessionView) (n : ℕ) (line : List ℕ) (item : Item) (ended : Bool) (more : List ℕ) → NoLineFeed line → line_at s line ≡ Ok item
     → reading_on s n line ended (10 ∷ more) ≡ after_step (step_of s.round item) (after_item s item) (λ next. reading_from next (n + 1) (lines_of ended more))
 at_item s n line item ended more none is =
     at_line s n line ended more none ∙ ap (λ said. reading_after s n said (λ next. reading_from next (n + 1) (lines_of ended more))) is
 
 -- after a line that is taken the reading goes on
-pub goes_on : (s : SessionView) (n : ℕ) (line : List ℕ) (item : Item) (ended : Bool) (more : List ℕ) → NoFeed line → line_at s line ≡ Ok item → step_of s.round item ≡ More
+pub goes_on : (s : SessionView) (n : ℕ) (line : List ℕ) (item : Item) (ended : Bool) (more : List ℕ) → NoLineFeed line → line_at s line ≡ Ok item → step_of s.round item ≡ More
     → reading_on s n line ended (10 ∷ more) ≡ reading_on (after_item s item) (n + 1) [] ended more
 goes_on s n line item ended more none is does =
     at_item s n line item ended more none is ∙ ap (λ step. after_step step (after_item s item) (λ next. reading_from next (n + 1) (lines_of ended more))) does
 
 -- after one that closes a round that round comes first
-pub closes : (s : SessionView) (n : ℕ) (line : List ℕ) (item : Item) (round : List BodyLine) (ended : Bool) (more : List ℕ) → NoFeed line → line_at s line ≡ Ok item → step_of s.round item ≡ Ready round
+pub closes : (s : SessionView) (n : ℕ) (line : List ℕ) (item : Item) (round : List BodyLine) (ended : Bool) (more : List ℕ) → NoLineFeed line → line_at s line ≡ Ok item → step_of s.round item ≡ Ready round
     → reading_on s n line ended (10 ∷ more) ≡ with_rounds (round ∷ []) (reading_on (after_item s item) (n + 1) [] ended more)
 closes s n line item round ended more none is does =
     at_item s n line item ended more none is ∙ ap (λ step. after_step step (after_item s item) (λ next. reading_from next (n + 1) (lines_of ended more))) does
 
 -- after the last one it ends, whatever follows
-pub ends : (s : SessionView) (n : ℕ) (line : List ℕ) (item : Item) (round : List BodyLine) (ended : Bool) (more : List ℕ) → NoFeed line → line_at s line ≡ Ok item → step_of s.round item ≡ Last round
+pub ends : (s : SessionView) (n : ℕ) (line : List ℕ) (item : Item) (round : List BodyLine) (ended : Bool) (more : List ℕ) → NoLineFeed line → line_at s line ≡ Ok item → step_of s.round item ≡ Last round
     → reading_on s n line ended (10 ∷ more) ≡ stopped (after_item s item) (round ∷ []) at_end_line
 ends s n line item round ended more none is does =
     at_item s n line item ended more none is ∙ ap (λ step. after_step step (after_item s item) (λ next. reading_from next (n + 1) (lines_of ended more))) does
 
 -- at a refused one it stops, whatever follows
-pub refuses : (s : SessionView) (n : ℕ) (line : List ℕ) (why : Why) (ended : Bool) (more : List ℕ) → NoFeed line → line_at s line ≡ Err why
+pub refuses : (s : SessionView) (n : ℕ) (line : List ℕ) (why : Why) (ended : Bool) (more : List ℕ) → NoLineFeed line → line_at s line ≡ Err why
     → reading_on s n line ended (10 ∷ more) ≡ stopped s [] (at_bad_line n why)
 refuses s n line why ended more none is =
     at_line s n line ended more none ∙ ap (λ said. reading_after s n said (λ next. reading_from next (n + 1) (lines_of ended more))) is
@@ -136,27 +89,27 @@ first_is_long s n ended line [] long well =
 first_is_long s n ended line (part ∷ parts) long well =
     ap (λ said. reading_after s n said (λ next. reading_from next (n + 1) (lines_in ended (part ∷ parts)))) (long_line s line long well)
 
-pub too_long : (s : SessionView) (n : ℕ) (begun : List ℕ) (ended : Bool) (more : List ℕ) → NoFeed begun → longest < length begun → already s.stage ≡ Ok tt
+pub too_long : (s : SessionView) (n : ℕ) (begun : List ℕ) (ended : Bool) (more : List ℕ) → NoLineFeed begun → longest < length begun → already s.stage ≡ Ok tt
     → reading_on s n begun ended more ≡ stopped s [] (at_bad_line n why.Long)
 too_long s n begun ended more none long well =
-    let next = some_part feeds more in
+    let next = some_part is_line_feed more in
     let longer : longest < length (begun ++ next.0) = omega (arith, long, length-append begun next.0) in
     ap (λ parts. reading_from s n (lines_in ended parts)) (split_onto begun more next.0 next.1 none next.2) ∙ first_is_long s n ended (begun ++ next.0) next.1 longer well
 
 -- ---- what has come of a line, where nothing follows
 
-at_rest : (s : SessionView) (n : ℕ) (begun : List ℕ) (ended : Bool) → NoFeed begun → reading_on s n begun ended [] ≡ reading_from s n (last_line ended begun)
+at_rest : (s : SessionView) (n : ℕ) (begun : List ℕ) (ended : Bool) → NoLineFeed begun → reading_on s n begun ended [] ≡ reading_from s n (last_line ended begun)
 at_rest s n begun ended none =
     ap (λ l. reading_from s n (lines_of ended l)) (append-nil begun) ∙ ap (λ parts. reading_from s n (lines_in ended parts)) (split_rest begun none)
 
 -- it is no line yet where it isn't too long
-pub not_yet : (s : SessionView) (n : ℕ) (begun : List ℕ) → NoFeed begun → length begun ≤ longest → reading_on s n begun false [] ≡ stopped s [] unended
+pub not_yet : (s : SessionView) (n : ℕ) (begun : List ℕ) → NoLineFeed begun → length begun ≤ longest → reading_on s n begun false [] ≡ stopped s [] unended
 not_yet s n begun none short =
     let no_line : last_line false begun ≡ [] = rw (le-ltb longest (length begun) short) refl in
     at_rest s n begun false none ∙ ap (reading_from s n) no_line
 
 -- nor where it isn't `end`
-pub no_end : (s : SessionView) (n : ℕ) (begun : List ℕ) (ended : Bool) → NoFeed begun → length begun ≤ longest → bytes_eq (line_text begun) (codes "end") ≡ false → reading_on s n begun ended [] ≡ stopped s [] unended
+pub no_end : (s : SessionView) (n : ℕ) (begun : List ℕ) (ended : Bool) → NoLineFeed begun → length begun ≤ longest → bytes_eq (line_text begun) (codes "end") ≡ false → reading_on s n begun ended [] ≡ stopped s [] unended
 no_end s n begun ended none short other = at_rest s n begun ended none ∙ ap (reading_from s n) (no_line ended)
   where
     no_line : (ended : Bool) → last_line ended begun ≡ []
@@ -164,7 +117,7 @@ no_end s n begun ended none short other = at_rest s n begun ended none ∙ ap (r
     no_line false = rw (le-ltb longest (length begun) short) refl
 
 -- where the source ends there and it is `end`, it is the last line
-pub at_end : (s : SessionView) (n : ℕ) (begun : List ℕ) → NoFeed begun → bytes_eq (line_text begun) (codes "end") ≡ true
+pub at_end : (s : SessionView) (n : ℕ) (begun : List ℕ) → NoLineFeed begun → bytes_eq (line_text begun) (codes "end") ≡ true
     → reading_on s n begun true [] ≡ reading_after s n (line_at s begun) (λ next. reading_from next (n + 1) [])
 at_end s n begun none is = at_rest s n begun true none ∙ ap (reading_from s n) (counts (nat_lt longest (length begun)) refl)
   where

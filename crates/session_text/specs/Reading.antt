@@ -1,5 +1,5 @@
 -- What the bytes of a source give: the head of a session, its closed rounds, and how it ends.
-use Rattle.std.specs.Prelude.{◌≡◌, ℕ, ◌+◌, ⊤, Bool, false, List, [], ◌∷◌, ◌++◌, ◌&&◌, ◌||◌, ◌==◌, nat_lt, length, codes, bytes_eq, flat_map, if◌then◌else◌, Result, Ok, Err}
+use Rattle.std.specs.Prelude.{ℕ, ◌+◌, Bool, List, [], ◌∷◌, ◌++◌, ◌&&◌, ◌||◌, ◌==◌, nat_lt, length, codes, bytes_eq, flat_map, if◌then◌else◌, Result, Ok, Err}
 use Rattle.std.specs.List.{slice_split}
 use Rattle.geo_layer.specs.declared.head.Head.{Head}
 use Rattle.session_text.specs.Lines.{longest, line_text}
@@ -16,11 +16,6 @@ use Rattle.session_text.specs.declared.why.Why.{Why}
 -- the rest after the last line feed is a line where it is too long, however it goes on; and where the source ends there and it is `end`
 abbrev pub last_line : Bool → List ℕ → List (List ℕ)
 last_line ended rest = if nat_lt longest (length rest) || (ended && bytes_eq (line_text rest) (codes "end")) then rest ∷ [] else []
-
--- there is no line feed among these bytes
-abbrev pub NoFeed : List ℕ → Type 0
-NoFeed [] = ⊤
-NoFeed (b ∷ bs) = ((b == 10) ≡ false) × NoFeed bs
 
 -- the lines of the parts between line feeds
 abbrev pub lines_in : Bool → List (List ℕ) → List (List ℕ)

@@ -1,7 +1,7 @@
 use Rattle.std.proofs.Common.{◌≡◌, ◌∙◌, ◌++◌, ◌-◌, ◌≤◌, ◌<◌, ℕ, List, length, take, ap, sym, subst, rules, arith}
 use Rattle.std.specs.Prelude.{slice_range}
 use Rattle.std.proofs.lemmas.List.{length-take-le}
-use Rattle.feature_feed.specs.JsonLines.{NoFeed}
+use Rattle.geo_text.specs.Bytes.{NoLineFeed}
 use Rattle.feature_feed.proofs.FeedLines.{block_kept}
 use Rattle.feature_feed.proofs.line_buffer.LineBuffer.read.Goals as goal
 
@@ -12,8 +12,8 @@ invariant_of-self-in_default g c =
     let whole : length b.block.items ≡ b.block.len = search rules in
     let same : length c.read_block.new.block ≡ length b.block.items = search rules in
     let i = c.self.invariant in
-    subst (λ (l : List ℕ). NoFeed c.extend_from_slice.new.self.items × (0 ≤ 0) × (0 ≤ length l) × (0 < length l)) (sym (block_kept b.block.items c.read_block.new.block b.block.len whole same))
-    (subst NoFeed (sym (grown ∙ c.self.view_is)) c.requires.open, omega arith, omega arith, omega (arith, same, i.3))
+    subst (λ (l : List ℕ). NoLineFeed c.extend_from_slice.new.self.items × (0 ≤ 0) × (0 ≤ length l) × (0 < length l)) (sym (block_kept b.block.items c.read_block.new.block b.block.len whole same))
+    (subst NoLineFeed (sym (grown ∙ c.self.view_is)) c.requires.open, omega arith, omega arith, omega (arith, same, i.3))
 
 pub invariant_of-self-2 : goal.invariant_of-self-2
 invariant_of-self-2 g c =
@@ -22,8 +22,8 @@ invariant_of-self-2 g c =
     let whole : length b.block.items ≡ b.block.len = search rules in
     let same : length c.read_block.new.block ≡ length b.block.items = search rules in
     let i = c.self.invariant in
-    subst (λ (l : List ℕ). NoFeed c.extend_from_slice.new.self.items × (0 ≤ c.in-Ok.n) × (c.in-Ok.n ≤ length l) × (0 < length l)) (sym (block_kept b.block.items c.read_block.new.block b.block.len whole same))
-    (subst NoFeed (sym (grown ∙ c.self.view_is)) c.requires.open, omega arith, c.in-Ok.ensures.front.1, omega (arith, same, i.3))
+    subst (λ (l : List ℕ). NoLineFeed c.extend_from_slice.new.self.items × (0 ≤ c.in-Ok.n) × (c.in-Ok.n ≤ length l) × (0 < length l)) (sym (block_kept b.block.items c.read_block.new.block b.block.len whole same))
+    (subst NoLineFeed (sym (grown ∙ c.self.view_is)) c.requires.open, omega arith, c.in-Ok.ensures.front.1, omega (arith, same, i.3))
 
 pub returns-clause-more : goal.returns-clause-more
 returns-clause-more g c =
