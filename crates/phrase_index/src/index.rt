@@ -3,7 +3,8 @@
 ghost use Rattle.std.specs.Prelude.{◌≡◌, ℕ, ◌<◌, ◌≤◌, ◌+◌, ◌↔◌, ◌&&◌, ◌||◌, cond, IsTrue, List, [], length, map, get_or, slice_get, slice_range, Some, IfOk, IfSome, IfNone, Contains, All};
 ghost use Rattle.std.specs.List.Sorted.{IsNonDecreasing};
 ghost use Rattle.std.specs.Str.{IsUtf8};
-ghost use Rattle.phrase_index.specs.Phrases.{Rise, is_below, number_of, begins_with, exact_range, prefix_range, IsRange, IsRangeOfFront};
+ghost use Rattle.geo_text.specs.Bytes.{begins_with};
+ghost use Rattle.phrase_index.specs.Phrases.{Rise, is_below, number_of, exact_range, prefix_range, IsRange, IsRangeOfFront};
 ghost use Rattle.phrase_index.specs.Heads.{head_of, end_of};
 ghost use Rattle.phrase_index.specs.Kept.{parts, begin_of, Reach, IsKept};
 

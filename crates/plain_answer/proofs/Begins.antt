@@ -5,8 +5,9 @@ use Rattle.std.proofs.Math.Seq.{take-append_seam, take-length, drop-append_seam}
 use Rattle.std.specs.Cmp.Lexicographic.{pointwise, bytes_decides}
 use Rattle.std.proofs.lemmas.Bool.{cases_Bool}
 use Rattle.std.proofs.lemmas.Slice.Eq.{bytes_eq-Decides}
+use Rattle.geo_text.specs.Bytes.{begins_with}
 use Rattle.geo_text.specs.Tokens.{joined}
-use Rattle.plain_answer.specs.Match.{run_text, begins_with, matches}
+use Rattle.plain_answer.specs.Match.{run_text, matches}
 
 and_true : (b : Bool) → (b && true) ≡ b
 and_true true = refl

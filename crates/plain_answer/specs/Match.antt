@@ -1,6 +1,7 @@
 -- Which runs of a query match a phrase.
-use Rattle.std.specs.Prelude.{ℕ, ◌+◌, ◌-◌, Bool, List, ◌&&◌, ◌||◌, ◌==◌, length, map, flat_map, take, bytes_eq, slice_range}
+use Rattle.std.specs.Prelude.{ℕ, ◌+◌, ◌-◌, Bool, List, ◌&&◌, ◌||◌, ◌==◌, length, map, flat_map, bytes_eq, slice_range}
 use Rattle.geo_base.specs.Lists.{numbers_from}
+use Rattle.geo_text.specs.Bytes.{begins_with}
 use Rattle.geo_text.specs.Tokens.{joined, replaced}
 use Rattle.geo_layer.specs.Layer.{LayerView}
 use Rattle.geo_query.specs.QueryView.{QueryView}
@@ -8,10 +9,6 @@ use Rattle.geo_query.specs.QueryView.{QueryView}
 -- the text of the run of tokens from `from` up to but not `to`
 abbrev pub run_text : List (List ℕ) → ℕ → ℕ → List ℕ
 run_text tokens from to = joined (slice_range tokens from to)
-
--- the text begins with these bytes
-abbrev pub begins_with : List ℕ → List ℕ → Bool
-begins_with text front = bytes_eq (take (length front) text) front
 
 -- a run of these tokens matches the phrase: the texts are equal; or the run ends the tokens, that is asked for, and the phrase begins with the run's text
 abbrev pub matches : List (List ℕ) → Bool → ℕ → ℕ → List ℕ → Bool
