@@ -1,5 +1,5 @@
 -- Tiles of one zoom in their order, each once.
-use Rattle.std.proofs.Common.{is_lt, ◌≡◌, ◌∙◌, ◌+◌, ◌<◌, ◌≤◌, ℕ, Bool, true, ◌&&◌, ◌⊎◌, inl, inr, ⊎_elim, All, List, [], ◌∷◌, length, get_or, refl, sym, ap, ap₂, subst, arith}
+use Rattle.std.proofs.Common.{is_lt, ◌≡◌, ◌∙◌, ◌+◌, ◌<◌, ◌≤◌, ℕ, Bool, true, ◌&&◌, ◌⊎◌, inl, inr, ⊎_elim, All, List, [], ◌∷◌, length, get_or, refl, sym, ap, subst, arith}
 use Rattle.std.specs.Prelude.{AllPairs, Contains}
 use Rattle.std.specs.List.{AllByRecursion, dedup, list_all}
 use Rattle.std.specs.List.Sorted.{IsStrictlySortedBy, IsSorted, IsPermutation}
@@ -10,17 +10,18 @@ use Rattle.std.specs.declared.cmp.Ordering.{Ordering}
 use Rattle.std.specs.declared.cmp.Ordering.TheVariants.{Less, Equal, Greater}
 use Rattle.std.proofs.lemmas.Cmp.{then_total, on_total, nat_cmp_total, ranked, and_equiv, on_equiv, nat_eq_equiv}
 use Rattle.std.proofs.lemmas.List.Elements.{All-cons, All-head, All-tail}
-use Rattle.std.proofs.lemmas.List.Kept.{AllPairs-cons, Contains-dedup, Contains-from_dedup, IsStrictlySortedBy-dedup}
+use Rattle.std.proofs.lemmas.List.Kept.{Contains-dedup, Contains-from_dedup, IsStrictlySortedBy-dedup}
 use Rattle.std.proofs.lemmas.List.Sorted.{Contains-permutation, IsPermutation-sym}
 use Rattle.std.proofs.lemmas.Bool.{and_parts}
 use Rattle.std.proofs.lemmas.Bool.Decides.{nat_tests}
 use Rattle.geo_base.proofs.Members.{member_here, member_there, member_cases, no_member}
+use Rattle.geo_base.proofs.RisingFacts.{same_list, pairs_rise}
 use Rattle.geo_base.specs.TileView.{TileView}
-use Rattle.geo_text.proofs.Lists.{all_indexed, get_or_again}
+use Rattle.geo_text.proofs.Lists.{get_or_again}
 use Rattle.feature_reader.specs.FeatureView.{tile_cmp}
 use Rattle.feature_reader.specs.Tiles.{with_tile, rising}
 
--- ---- lists in a strict order
+-- ---- what holds of all
 
 module _ {X : Type 0} where
   all_at : (P : X → Type 0) (xs : List X) (x : X) → AllByRecursion P xs → Contains xs x → P x
@@ -30,52 +31,6 @@ module _ {X : Type 0} where
   all_of : (P : X → Type 0) (xs : List X) → ((x : X) → Contains xs x → P x) → AllByRecursion P xs
   all_of P [] h = tt
   all_of P (y ∷ xs) h = (h y (member_here y xs), all_of P xs (λ x c. h x (member_there y x xs c)))
-
-  -- two lists in one strict order with the same members are one
-  pub same_list : (R : X → X → Ordering) → ((x y : X) → R x y ≡ Less → R y x ≡ Less → ⊥) → (xs ys : List X) → IsStrictlySortedBy R xs → IsStrictlySortedBy R ys
-      → ((x : X) → Contains xs x → Contains ys x) → ((x : X) → Contains ys x → Contains xs x) → xs ≡ ys
-  unfolding IsStrictlySortedBy
-  same_list R one [] [] s t to back = refl
-  same_list R one [] (y ∷ ys) s t to back = absurd (no_member y (back y (member_here y ys)))
-  same_list R one (x ∷ xs) [] s t to back = absurd (no_member x (to x (member_here x xs)))
-  same_list R one (x ∷ xs) (y ∷ ys) s t to back =
-      let head : x ≡ y =
-      ⊎_elim
-      (λ e. sym e)
-      (λ later. ⊎_elim
-      (λ e. e)
-      (λ after. absurd (one x y (all_at (λ z. R x z ≡ Less) xs y s.0 after) (all_at (λ z. R y z ≡ Less) ys x t.0 later)))
-      (member_cases x y xs (back y (member_here y ys))))
-      (member_cases y x ys (to x (member_here x xs))) in
-      let onward : (z : X) → Contains xs z → Contains ys z =
-      λ z c. ⊎_elim
-      (λ e. let up : R x z ≡ Less = all_at (λ w. R x w ≡ Less) xs z s.0 c in
-      let same : z ≡ x = sym e ∙ sym head in
-      let itself : R x x ≡ Less = subst (λ w. R x w ≡ Less) same up in
-      absurd (one x x itself itself))
-      (λ d. d)
-      (member_cases y z ys (to z (member_there x z xs c))) in
-      let backward : (z : X) → Contains ys z → Contains xs z =
-      λ z c. ⊎_elim
-      (λ e. let up : R y z ≡ Less = all_at (λ w. R y w ≡ Less) ys z t.0 c in
-      let same : z ≡ y = sym e ∙ head in
-      let itself : R y y ≡ Less = subst (λ w. R y w ≡ Less) same up in
-      absurd (one y y itself itself))
-      (λ d. d)
-      (member_cases x z xs (back z (member_there y z ys c))) in
-      ap₂ ◌∷◌ head (same_list R one xs ys s.1 t.1 onward backward)
-
-  -- a total order puts no two before each other
-  pub one_way : {R : X → X → Ordering} → IsTotalOrder R → (x y : X) → R x y ≡ Less → R y x ≡ Less → ⊥
-  one_way {R} o x y first second =
-      let bad : Less ≡ Greater = sym first ∙ (o.antisymm x y ∙ ap ordering_reverse second) in
-      cc
-
-  -- what comes later in a list in strict order is greater
-  pub pairs_rise : (R : X → X → Ordering) (xs : List X) → IsStrictlySortedBy R xs → AllPairs (λ x y. R x y ≡ Less) xs
-  unfolding IsStrictlySortedBy
-  pairs_rise R [] s = λ i j d l m. absurd (omega (arith, m))
-  pairs_rise R (x ∷ xs) s = AllPairs-cons (λ y z. R y z ≡ Less) x xs (all_indexed (λ z. R x z ≡ Less) xs s.0) (pairs_rise R xs s.1)
 
 -- ---- the order of tiles
 
@@ -223,7 +178,7 @@ rising_is z ts sorted all moved up =
     let at = at_zoom z ts all in
     let at_sorted : (x : TileView) → Contains sorted x → x.z ≡ z = λ x c. at x (Contains-permutation _ _ x (IsPermutation-sym _ _ moved) c) in
     let back : (x : TileView) → Contains (dedup same sorted) x → Contains ts x = λ x c. Contains-permutation _ _ x (IsPermutation-sym _ _ moved) (Contains-from_dedup same sorted x c) in
-    same_list tile_cmp (one_way tile_cmp_total) (dedup same sorted) (rising ts)
+    same_list tile_cmp_total (dedup same sorted) (rising ts)
     (one_zoom-rises z (dedup same sorted) (λ t c. at t (back t c)) (IsStrictlySortedBy-dedup full_cmp_total same_ties sorted (fully_sorted z sorted at_sorted up)))
     (rising-rises ts)
     (λ x c. rising-all z ts at x (back x c))
@@ -231,7 +186,7 @@ rising_is z ts sorted all moved up =
 
 -- what the type of a feature keeps of its tiles
 pub rising-pairs : (ts : List TileView) → AllPairs (λ t u. tile_cmp t u ≡ Less) (rising ts)
-rising-pairs ts = pairs_rise tile_cmp (rising ts) (rising-rises ts)
+rising-pairs ts = pairs_rise tile_cmp_total (rising ts) (rising-rises ts)
 
 with_tile-length : (t : TileView) (us : List TileView) → (0 < length (with_tile t us)) × (length (with_tile t us) ≤ length us + 1)
 with_tile-length t [] = (omega arith, omega arith)
