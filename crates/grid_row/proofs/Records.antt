@@ -10,7 +10,7 @@ use Rattle.geo_base.specs.declared.refusal.Refused.{Refused}
 use Rattle.grid_row.specs.declared.fault.RowFault.{RowFault}
 use Rattle.grid_row.specs.declared.fault.RowFault.TheVariants.{Short, Count, ZeroDifference, BelowZero}
 use Rattle.grid_row.specs.declared.record.Record.{Record}
-use Rattle.grid_row.specs.Rows.{FallsBelow, IsRows}
+use Rattle.grid_row.specs.Rows.{FallsBelow, IsRowNumbers}
 use Rattle.grid_row.specs.Spelling.{set_bytes, spelling, IsRecord}
 use Rattle.grid_row.specs.Reading.{◌>>=◌, number_at, set_at, count_at, row_at, rows_at, record_at, front}
 use Rattle.grid_row.specs.Kept.{Gives}
@@ -64,7 +64,7 @@ record_takes bytes x fits e =
     let e02 = Takes-then bytes (set_bytes a.0.0) a.0.1 (to_le_bytes w32 (length c.0.0) ++ numbers c.0.0) c.0.1 t0.0 e12 in
     let some = t1.1.0 in
     let few = t1.1.1 in
-    let rows : IsRows c.0.0 = record { some = omega (arith, len, some); few = omega (arith, len, few); falling = t2.2 } in
+    let rows : IsRowNumbers c.0.0 = record { some = omega (arith, len, some); few = omega (arith, len, few); falling = t2.2 } in
     let made : Record × List ℕ = (record_of a.0.0 c.0.0, c.0.1) in
     subst (λ (y : Record × List ℕ). Takes bytes (spelling y.0) y.1 × IsRecord y.0) {x = made} (ok_is made x c.2) (e02, record { set = t0.1; rows = rows })
 

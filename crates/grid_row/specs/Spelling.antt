@@ -3,7 +3,7 @@ use Rattle.std.specs.Prelude.{ℕ, ◌<◌, ◌+◌, ◌*◌, ◌/◌, ◌%◌, 
 use Rattle.std.specs.List.{flat_map, AllByRecursion}
 use Rattle.std.specs.Int.{w32, w64, to_le_bytes}
 use Rattle.grid_row.specs.declared.record.Record.{Record}
-use Rattle.grid_row.specs.Rows.{IsRows}
+use Rattle.grid_row.specs.Rows.{IsRowNumbers}
 
 -- a set of languages in 16 bytes, the low byte first: its low 64 bits and its high 64 bits
 abbrev pub set_bytes : ℕ → List ℕ
@@ -16,7 +16,7 @@ spelling r = set_bytes r.set.bits ++ (to_le_bytes w32 (length r.rows) ++ flat_ma
 -- what has a spelling: a set of 128 bits, and 1 to 8,388,608 rows of 64 bits, strictly falling
 pub record IsRecord (r : Record) : Type 0 where
   pub set : r.set.bits < 2 ^ 128
-  pub rows : IsRows r.rows
+  pub rows : IsRowNumbers r.rows
 
 abbrev pub AreRecords : List Record → Type 0
 AreRecords rs = AllByRecursion IsRecord rs

@@ -4,7 +4,7 @@ ghost use Rattle.std.specs.Prelude.{◌≡◌, ◌++◌, ◌∷◌, [], ◌<◌,
 ghost use Rattle.geo_base.specs.declared.refusal.Refused.TheVariants as refused;
 ghost use Rattle.grid_row.specs.declared.fault.RowFault.TheVariants.{Short, Count};
 ghost use Rattle.grid_row.specs.declared.record.Record.{Record};
-ghost use Rattle.grid_row.specs.Rows.{IsRows};
+ghost use Rattle.grid_row.specs.Rows.{IsRowNumbers};
 ghost use Rattle.grid_row.specs.Reading.{record_at};
 ghost use Rattle.grid_row.specs.Kept.{Fails, kept_start};
 
@@ -154,7 +154,7 @@ impl RowList {
     pub fn at(&self, place: usize) -> LentRecord<'_>
         requires { place < length self.now }
         ensures record { slice_get self.now place ≡ Some (record { set = result.set; rows = result.rows.now }) }
-        ensures rows { IsRows result.rows.now }
+        ensures rows { IsRowNumbers result.rows.now }
     {
         let from = start_of(self.ends.as_slice(), place);
         let here = self.ends[place];

@@ -1,7 +1,7 @@
 //! The packed rows of a record.
 
 ghost use Rattle.std.specs.Prelude.{◌≡◌, ◌++◌, ◌∷◌, [], ◌<◌, ℕ, List, length, IfOk, OnOk, OnErr, Some, slice_get};
-ghost use Rattle.grid_row.specs.Rows.{IsRows};
+ghost use Rattle.grid_row.specs.Rows.{IsRowNumbers};
 
 use geo_base::refusal::Memory;
 use std::alloc::Global;
@@ -15,13 +15,13 @@ pub struct RowNumbers {
 
 impl Model for RowNumbers {
     ghost use Rattle.std.specs.Prelude.{ℕ, List};
-    ghost use Rattle.grid_row.specs.Rows.{IsRows};
+    ghost use Rattle.grid_row.specs.Rows.{IsRowNumbers};
 
     ghost Value = { List ℕ };
 
     ghost view = { λ r. r.list.items };
 
-    ghost invariant = { λ r. IsRows r.list.items };
+    ghost invariant = { λ r. IsRowNumbers r.list.items };
 }
 
 impl RowNumbers {
@@ -36,7 +36,7 @@ impl RowNumbers {
 
     /// Adds a row, which has to lie below the last one. Want of memory leaves the list as it was.
     pub fn push(&mut self, row: u64) -> Result<(), Memory>
-        requires { IsRows (self.old ++ row ∷ []) }
+        requires { IsRowNumbers (self.old ++ row ∷ []) }
         ensures ok { OnOk result (self.new ≡ self.old ++ row ∷ []) }
         ensures err { OnErr result (self.new ≡ self.old) }
     {
@@ -63,7 +63,7 @@ impl RowNumbers {
     /// The rows, the greatest first.
     pub fn as_slice(&self) -> &[u64]
         ensures value { result.now ≡ self.now }
-        ensures rows { IsRows result.now }
+        ensures rows { IsRowNumbers result.now }
     {
         self.list.as_slice()
     }

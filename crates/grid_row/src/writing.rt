@@ -4,7 +4,7 @@ ghost use Rattle.std.specs.Prelude.{◌≡◌, ◌≤◌, ◌++◌, OnErr, OnOk}
 ghost use Rattle.std.specs.Io.{StartsWith};
 ghost use Rattle.std.specs.List.{flat_map};
 ghost use Rattle.std.specs.Int.{w64, to_le_bytes};
-ghost use Rattle.grid_row.specs.Rows.{IsRows};
+ghost use Rattle.grid_row.specs.Rows.{IsRowNumbers};
 ghost use Rattle.grid_row.specs.Spelling.{set_bytes, spelling, room_of};
 
 use crate::record::Record;
@@ -43,7 +43,7 @@ fn append_rows(rows: &[u64], out: &mut Vec<u8>) -> Result<(), Memory>
 
 /// Appends the record of a set and rows. Want of memory leaves what was there at the front.
 fn append(set: LangSet, rows: &[u64], out: &mut Vec<u8>) -> Result<(), Memory>
-    requires { IsRows rows.now }
+    requires { IsRowNumbers rows.now }
     ensures ok { OnOk result (out.new.items ≡ out.old.items ++ spelling (record { set = set; rows = rows.now })) }
     ensures err { OnErr result (StartsWith out.new.items out.old.items) }
 {
@@ -56,7 +56,7 @@ fn append(set: LangSet, rows: &[u64], out: &mut Vec<u8>) -> Result<(), Memory>
 
 /// Appends the one spelling of the record of a set and of rows, as [`write_record`] does.
 pub fn write_rows(set: LangSet, rows: &[u64], out: &mut Vec<u8>) -> Result<(), Memory>
-    requires { IsRows rows.now }
+    requires { IsRowNumbers rows.now }
     ensures ok { OnOk result (out.new.items ≡ out.old.items ++ spelling (record { set = set; rows = rows.now })) }
     ensures err { OnErr result (out.new.items ≡ out.old.items) }
 {

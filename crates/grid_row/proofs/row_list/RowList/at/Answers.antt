@@ -1,7 +1,7 @@
 use Rattle.std.proofs.Common.{◌≡◌, ◌≤◌, ◌∙◌, ℕ, List, sym, ap, subst, length, arith}
 use Rattle.std.specs.Prelude.{slice_get, slice_range, Some}
 use Rattle.grid_row.specs.declared.row_list.RecordEnd.{RecordEnd}
-use Rattle.grid_row.specs.Rows.{IsRows}
+use Rattle.grid_row.specs.Rows.{IsRowNumbers}
 use Rattle.grid_row.specs.Kept.{kept_start}
 use Rattle.grid_row.proofs.KeptFacts.{IsThere, many_there, is_there}
 use Rattle.grid_row.proofs.row_list.RowList.at.Goals as goal
@@ -30,4 +30,4 @@ pub returns-clause-record : goal.returns-clause-record
 returns-clause-record c = subst (λ (rows : List ℕ). slice_get c.args.self.now c.args.place ≡ Some (record { set = c.index-here.result.now.set; rows = rows })) (lent c) (there c.before).is
 
 pub returns-clause-rows : goal.returns-clause-rows
-returns-clause-rows c = subst IsRows (lent c) (there c.before).rule.rows
+returns-clause-rows c = subst IsRowNumbers (lent c) (there c.before).rule.rows
