@@ -9,7 +9,6 @@ use Rattle.std.specs.declared.cmp.Ordering.TheVariants.{Less, Equal, Greater}
 use Rattle.std.proofs.Math.Nat.{suc-mul, pow-le-pow_right}
 use Rattle.std.proofs.lemmas.Bool.{and_parts}
 use Rattle.std.proofs.lemmas.Bool.Decides.{nat_tests}
-use Rattle.std.proofs.lemmas.Cmp.{then_total, on_total, back_total, nat_cmp_total}
 use Rattle.std.proofs.lemmas.List.{length-map, take_more, flat_map_more}
 use Rattle.std.proofs.lemmas.List.Elements.{All-append, All-contains}
 use Rattle.std.proofs.lemmas.List.Sums.{sum_by-cons}
@@ -28,6 +27,7 @@ use Rattle.grid_row.proofs.PackedFacts.{unpacked-packed}
 use Rattle.grid_store.specs.declared.entry.GridEntry.{GridEntry}
 use Rattle.grid_store.specs.Entries.{AreRows}
 use Rattle.grid_store.specs.Order.{entry_cmp, IsStoreOf}
+use Rattle.grid_store.proofs.OrderFacts.{entry_cmp_total}
 use Rattle.generation.specs.Index.{phrases_of, grid_entry, feature_grid, entries_of}
 use Rattle.generation.specs.Parts.{entry_at}
 use Rattle.generation.proofs.TextFacts.{text_there}
@@ -80,6 +80,14 @@ grid_rows phrases f is =
     let t = member_of_map (grid_entry phrases f p.0) f.tiles e p.2 in
     subst (λ (x : GridEntry). IsRow x.row) t.2 (entry_row phrases f p.0 t.0 is p.1 t.1))
 
+-- and so can the rows of all entries
+pub all_rows : (features : List FeatureView) → All IsFeature features → AreRows (entries_of features)
+all_rows features fine =
+    all_from_members (λ (e : GridEntry). IsRow e.row) (entries_of features)
+    (λ e c.
+    let f = member_of_flat_map (feature_grid (phrases_of features)) features e c in
+    All-contains (λ (g : GridEntry). IsRow g.row) (feature_grid (phrases_of features) f.0) e (grid_rows (phrases_of features) f.0 (All-contains IsFeature features f.0 fine f.1)) f.2)
+
 -- ---- feature by feature
 
 -- the entries so far, whose rows can be packed, and those of the features that are left, are all; and there is room for the rest
@@ -117,9 +125,6 @@ texts_there features f rest entries are =
     (λ p c. text_there features f p (are.among f (member_here f rest)) c)
 
 -- ---- entries in their order
-
-pub entry_cmp_total : IsTotalOrder entry_cmp
-entry_cmp_total = then_total (on_total (λ (e : GridEntry). e.phrase) nat_cmp_total) (then_total (on_total (λ (e : GridEntry). e.set.bits) nat_cmp_total) (on_total (λ (e : GridEntry). packed e.row) (back_total nat_cmp_total)))
 
 tests : (p q s t u v : ℕ) → ((p == q) && ((s == t) && (u == v))) ≡ is_eq (ordering_then (nat_cmp p q) (ordering_then (nat_cmp s t) (nat_cmp v u)))
 tests p q s t u v = grind (arith, nat_tests)

@@ -1,5 +1,5 @@
 mod ListFacts
-mod OrderFacts
+pub mod OrderFacts
 mod PackedFacts
 mod GroupFacts
 mod MarkFacts
