@@ -17,12 +17,12 @@ pub row_there : (rows : List ℕ) (a row j : ℕ) → j ≢ a → slice_index (s
 row_there rows a row j other = get_or-set_other rows a j row 0 other
 
 -- the rows so far, and none after them
-pub record AreRows (layers : List LayerView) (a : ℕ) (rows : List ℕ) : Type 0 where
+pub record AreStacksUpTo (layers : List LayerView) (a : ℕ) (rows : List ℕ) : Type 0 where
   pub so_far : (j k : ℕ) → j < a → k < 16 → bit_at (slice_index rows j) k ≡ cond (compat layers j k) 1 0
   pub none : (j : ℕ) → a ≤ j → slice_index rows j ≡ 0
   pub long : length rows ≡ 16
 
-pub rows_more : (layers : List LayerView) (a row : ℕ) (rows : List ℕ) → AreRows layers a rows → a < 16 → ((k : ℕ) → k < 16 → bit_at row k ≡ cond (compat layers a k) 1 0) → AreRows layers (a + 1) (set rows a row)
+pub rows_more : (layers : List LayerView) (a row : ℕ) (rows : List ℕ) → AreStacksUpTo layers a rows → a < 16 → ((k : ℕ) → k < 16 → bit_at row k ≡ cond (compat layers a k) 1 0) → AreStacksUpTo layers (a + 1) (set rows a row)
 rows_more layers a row rows are within bits = record {
   so_far = λ j k lj lk. ⊎_elim
       (λ (same : j ≡ a). ap (λ r. bit_at r k) (row_here rows a row j inside same) ∙ (bits k lk ∙ ap (λ n. cond (compat layers n k) 1 0) (sym same)))
@@ -52,7 +52,7 @@ past_left layers a b past = ap (λ o. both_compatible o (slice_get layers b)) (p
 pub past_right : (layers : List LayerView) (a b : ℕ) → length layers ≤ b → compat layers a b ≡ false
 past_right layers a b past = ap (λ o. both_compatible (slice_get layers a) o) (past_end layers b past) ∙ none_back (slice_get layers a)
 
-pub rows_end : (layers : List LayerView) (a : ℕ) (rows : List ℕ) → AreRows layers a rows → length layers ≤ a → (i b : ℕ) → i < 16 → b < 16 → bit_at (slice_index rows i) b ≡ cond (compat layers i b) 1 0
+pub rows_end : (layers : List LayerView) (a : ℕ) (rows : List ℕ) → AreStacksUpTo layers a rows → length layers ≤ a → (i b : ℕ) → i < 16 → b < 16 → bit_at (slice_index rows i) b ≡ cond (compat layers i b) 1 0
 rows_end layers a rows are all i b li lb =
     ⊎_elim
     (λ (low : i < a). are.so_far i b low lb)

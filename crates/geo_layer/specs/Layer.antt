@@ -1,7 +1,8 @@
 -- Layers, and which of them may stand in one context.
-use Rattle.std.specs.Prelude.{◌≡◌, ℕ, Bool, true, false, ◌≤◌, ◌&&◌, ◌||◌, ◌==◌, not, nat_le, List, length, bytes_eq, slice_get, All, AllPairs, Option, Some, None, IfSome}
+use Rattle.std.specs.Prelude.{◌≡◌, ℕ, Bool, true, false, ◌<◌, ◌≤◌, ◌&&◌, ◌||◌, ◌==◌, not, nat_le, List, length, bytes_eq, slice_get, All, AllPairs, Option, Some, None, IfSome}
 use Rattle.std.specs.List.{list_all, list_any}
 use Rattle.std.specs.Int.{is_in_range}
+use Rattle.geo_base.specs.Job.{compat_of}
 use Rattle.geo_text.specs.Tokens.{Replacements}
 use Rattle.geo_text.specs.Words.{IsWord}
 
@@ -56,3 +57,7 @@ both_compatible a None = false
 -- the layers with these numbers are compatible
 abbrev pub compat : List LayerView → ℕ → ℕ → Bool
 compat layers a b = both_compatible (slice_get layers a) (slice_get layers b)
+
+-- rows of bits that say which of the layers are compatible, for numbers below 16
+abbrev pub AreStacks : List LayerView → List ℕ → Type 0
+AreStacks layers rows = (a b : ℕ) → a < 16 → b < 16 → compat_of rows a b ≡ compat layers a b

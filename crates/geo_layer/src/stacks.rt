@@ -2,8 +2,7 @@
 
 ghost use Rattle.std.specs.Prelude.{◌≡◌, ◌≢◌, ℕ, ◌<◌, length, cond};
 ghost use Rattle.std.specs.Int.{bit_at};
-ghost use Rattle.geo_base.specs.Job.{compat_of};
-ghost use Rattle.geo_layer.specs.Layer.{compat};
+ghost use Rattle.geo_layer.specs.Layer.{compat, AreStacks};
 
 use crate::layers::Layers;
 
@@ -11,7 +10,7 @@ impl Layers {
     /// Which layers are compatible: bit b of the a-th number says whether the layers a and b are. No bit says so of a layer
     /// that isn't there. Takes no memory.
     pub fn stacks(&self) -> [u16; 16]
-        ensures { (a b : ℕ) → a < 16 → b < 16 → compat_of result a b ≡ compat self.now a b }
+        ensures { AreStacks self.now result }
     {
         let mut stacks = [0; 16];
         for a in 0..self.len() {
