@@ -7,8 +7,7 @@ ghost use Rattle.feature_reader.specs.Table.{features_in, most_rows};
 ghost use Rattle.phrase_index.specs.Phrases.{number_of};
 ghost use Rattle.grid_store.specs.Order.{entry_cmp};
 ghost use Rattle.grid_store.specs.Entries.{AreRows};
-ghost use Rattle.generation.specs.Index.{phrases_of, feature_grid, entries_of};
-ghost use Rattle.generation.specs.Parts.{entry_at};
+ghost use Rattle.generation.specs.Index.{phrases_of, entry_at, feature_grid, entries_of};
 
 use feature_reader::feature::Feature;
 use feature_reader::phrase::Phrase;
