@@ -2,7 +2,6 @@
 
 ghost use Rattle.std.specs.Prelude.{◌≡◌, ◌<◌, ◌≤◌, ◌++◌, length, All, Contains, IfOk, IfSome, OnOk, Ok};
 ghost use Rattle.geo_base.specs.TileView.{IsTile};
-ghost use Rattle.plain_answer.specs.Links.{meets_bounds};
 ghost use Rattle.grid_row.specs.Packed.{unpacked};
 ghost use Rattle.grid_row.specs.Reading.{decoding};
 ghost use Rattle.grid_row.specs.Spelling.{AreRecords};
@@ -25,6 +24,7 @@ use grid_row::laws::written_is_read;
 use grid_row::row::{Row, unpack};
 use grid_row::row_list::RowList;
 use grid_store::laws::records_hold_the_entries;
+use plain_answer::bounds::meets_bounds;
 use std::alloc::Global;
 
 /// The bytes of the records of a piece's entries, one record for each phrase and set of languages, by phrase and then by set
@@ -35,16 +35,6 @@ pub fn piece_bytes<'a>(generation: &'a Generation, piece: &Piece) -> &'a [u8]
     ensures records { AreRecords (records_of (piece_entries (indexes_of generation.now.table) piece.now)) }
 {
     generation.grids(piece.layer).bytes(piece.first..piece.last)
-}
-
-/// Whether the tile meets the query's box, where it asks for one.
-fn meets_bounds(query: &Query, tile: &Tile) -> bool
-    ensures { result ≡ meets_bounds query.now.bounds tile.now }
-{
-    match query.bounds() {
-        Some(bounds) => bounds.meets(tile),
-        None => true,
-    }
 }
 
 /// 100 where no language is asked for, or the set has its bit; else 96.

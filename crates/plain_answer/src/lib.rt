@@ -2,6 +2,7 @@
 #![tactic(auto)]
 
 pub mod answer;
+pub mod bounds;
 mod chains;
 mod count;
 pub mod job_answer;

@@ -9,29 +9,19 @@ ghost use Rattle.feature_reader.specs.FeatureView.{IsFeature};
 ghost use Rattle.plain_answer.specs.Match.{runs_from, runs, matches_in};
 ghost use Rattle.plain_answer.specs.Links.{factor, meets_bounds, link_of, run_links, phrase_links, feature_links, links};
 
+use crate::bounds::meets_bounds;
 use crate::matching::is_match;
 use feature_reader::feature::Feature;
 use feature_reader::phrase::Phrase;
 use feature_reader::table::FeatureTable;
 use geo_base::link::Link;
 use geo_base::refusal::Memory;
-use geo_base::tile::Tile;
 use geo_layer::head::Head;
 use geo_layer::langs::Langs;
 use geo_layer::layer::Layer;
 use geo_query::query::Query;
 use geo_text::text::Tokens;
 use std::alloc::Global;
-
-/// Whether the tile meets the query's box, where it asks for one.
-fn meets_bounds(query: &Query, tile: &Tile) -> bool
-    ensures { result ≡ meets_bounds query.now.bounds tile.now }
-{
-    match query.bounds() {
-        Some(bounds) => bounds.meets(tile),
-        None => true,
-    }
-}
 
 /// 100 where no language is asked for, or the phrase speaks for the one that is; else 96.
 fn factor(langs: &Langs, query: &Query, phrase: &Phrase) -> u32
