@@ -2,6 +2,7 @@
 #![tactic(auto)]
 
 pub mod entry;
+pub mod factor;
 pub mod laws;
 mod making;
 mod marks;
