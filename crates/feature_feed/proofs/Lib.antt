@@ -5,6 +5,5 @@ mod Filled
 pub mod ItemZooms
 mod LinesLeft
 mod OneLoad
-pub mod SeenWalks
 mod TakingFacts
 mod ToldBefore

@@ -1,6 +1,6 @@
--- For private contracts alone: what taking bytes of a source into memory does.
-use Rattle.std.specs.Prelude.{◌≡◌, ℕ, List, ◌++◌, Option, Some}
+-- For private contracts alone: the bytes of a source while they are taken into memory.
+use Rattle.std.specs.Prelude.{ℕ, List, ◌++◌, Option, option_map}
 
--- of what was taken and what the source has left nothing is lost
-abbrev pub Moved : Option (List ℕ) → List ℕ → Option (List ℕ) → List ℕ → Type 0
-Moved left taken left_now taken_now = (rest : List ℕ) → left ≡ Some rest → (now : List ℕ) × (left_now ≡ Some now) × (taken ++ rest ≡ taken_now ++ now)
+-- what was taken and behind it what a source has left, where it tells that
+abbrev pub all_bytes : List ℕ → Option (List ℕ) → Option (List ℕ)
+all_bytes taken left = option_map (λ rest. taken ++ rest) left

@@ -9,7 +9,6 @@ pub mod json_lines_feed;
 pub mod laws;
 mod line_buffer;
 pub mod memory_feed;
-mod seen;
 mod source_lines;
 mod steady_source;
 mod taking;

@@ -4,9 +4,10 @@ ghost use Rattle.std.specs.Prelude.{◌≡◌, ◌≢◌, ◌≤◌, ◌<◌, �
 ghost use Rattle.std.specs.Io.KnownBytes.{IsAtEnd};
 ghost use Rattle.geo_outside.specs.Device.{Rose};
 ghost use Rattle.feature_feed.specs.Feed.{most_bytes};
-ghost use Rattle.feature_feed.specs.Taking.{Moved};
+ghost use Rattle.feature_feed.specs.Taking.{all_bytes};
 
 use crate::feed::{FeedError, MOST_BYTES};
+use crate::steady_source::SteadySource;
 use geo_outside::device::Source;
 
 /// How many bytes a read asks for at most.
@@ -14,17 +15,17 @@ const BLOCK: usize = 65_536;
 
 /// One read, into a block and then behind what was taken. At an error nothing was taken.
 fn take_some<S: Source>(
-    source: &mut S,
+    source: &mut SteadySource<S>,
     taken: &mut Vec<u8>,
     block: &mut [u8],
 ) -> Result<usize, FeedError>
     requires { 0 < length block.old }
-    ensures moved { Moved (S.left source.old) taken.old.items (S.left source.new) taken.new.items }
+    ensures bytes { all_bytes taken.new.items source.new.left ≡ all_bytes taken.old.items source.old.left }
     ensures count { IfOk result (λ n. length taken.new.items ≡ length taken.old.items + n) }
-    ensures end { IfOk result (λ n. n ≡ 0 → IsAtEnd (S.left source.new)) }
-    ensures later { S.faults source.old ≤ S.faults source.new }
-    ensures kept { result ≢ Err FeedError.Failed → S.faults source.new ≡ S.faults source.old }
-    ensures cause { result ≡ Err FeedError.Failed → Rose (S.faults source.old) (S.faults source.new) }
+    ensures end { IfOk result (λ n. n ≡ 0 → IsAtEnd source.new.left) }
+    ensures later { source.old.faults ≤ source.new.faults }
+    ensures kept { result ≢ Err FeedError.Failed → source.new.faults ≡ source.old.faults }
+    ensures cause { result ≡ Err FeedError.Failed → Rose source.old.faults source.new.faults }
 {
     if taken.reserve(block.len()).is_err() {
         return Err(FeedError::Memory);
@@ -40,12 +41,15 @@ fn take_some<S: Source>(
 
 /// Takes what the source has left behind what was taken, until that is as long as the limit. At an error what was taken
 /// stays, and a later call goes on.
-pub(crate) fn take_source<S: Source>(source: &mut S, taken: &mut Vec<u8>) -> Result<(), FeedError>
-    ensures moved { Moved (S.left source.old) taken.old.items (S.left source.new) taken.new.items }
-    ensures whole { OnOk result ((rest : List ℕ) → S.left source.old ≡ Some rest → take most_bytes taken.new.items ≡ take most_bytes (taken.old.items ++ rest)) }
-    ensures later { S.faults source.old ≤ S.faults source.new }
-    ensures kept { result ≢ Err FeedError.Failed → S.faults source.new ≡ S.faults source.old }
-    ensures cause { result ≡ Err FeedError.Failed → Rose (S.faults source.old) (S.faults source.new) }
+pub(crate) fn take_source<S: Source>(
+    source: &mut SteadySource<S>,
+    taken: &mut Vec<u8>,
+) -> Result<(), FeedError>
+    ensures bytes { all_bytes taken.new.items source.new.left ≡ all_bytes taken.old.items source.old.left }
+    ensures whole { OnOk result ((rest : List ℕ) → source.old.left ≡ Some rest → take most_bytes taken.new.items ≡ take most_bytes (taken.old.items ++ rest)) }
+    ensures later { source.old.faults ≤ source.new.faults }
+    ensures kept { result ≢ Err FeedError.Failed → source.new.faults ≡ source.old.faults }
+    ensures cause { result ≡ Err FeedError.Failed → Rose source.old.faults source.new.faults }
 {
     let mut block = [0u8; BLOCK];
     while taken.len() < MOST_BYTES {
