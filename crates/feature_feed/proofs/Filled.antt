@@ -135,6 +135,12 @@ given_more before now after turns is so_far below =
     let lower : now < 18446744073709551615 = omega (arith, is, below) in
     omega (arith, is, below, so_far lower)
 
+-- and where a pull gave none
+pub given_still : (before now after turns n : ℕ) → after ≡ now → (now < 18446744073709551615 → now ≡ before + turns) → n ≡ turns → after < 18446744073709551615 → after ≡ before + n
+given_still before now after turns n is so_far same below =
+    let lower : now < 18446744073709551615 = omega (arith, is, below) in
+    omega (arith, is, so_far lower, same)
+
 pub end_more : (r : LoadReport) (o : Outcome) → (with_outcome r o).end ≡ r.end
 end_more r Put = refl
 end_more r Bad = refl

@@ -4,6 +4,7 @@ mod FeedLines
 mod Filled
 pub mod ItemZooms
 mod LinesLeft
+mod LoadOf
 mod OneLoad
 mod TakingFacts
 mod ToldBefore

@@ -7,6 +7,7 @@ ghost use Rattle.geo_outside.specs.Device.{Rose};
 ghost use Rattle.feature_reader.specs.declared.feature.FeatureFault.{FeatureFault};
 ghost use Rattle.feature_feed.specs.Feed.{Gives, given_after};
 ghost use Rattle.feature_feed.specs.Drain.{feature_of_item, outcome_of, after_item, after_items, with_outcome, Gave, IsLoad};
+ghost use Rattle.feature_feed.specs.Load.{Load, IsLoadOf, IsAllOf, report_of};
 ghost use Rattle.feature_feed.specs.declared.feed.FeedItem.{FeedItem};
 ghost use Rattle.feature_reader.specs.declared.load_report.LoadEnd.TheVariants as at;
 
@@ -166,7 +167,7 @@ fn fill<T: Taker>(
     ensures later { (shows feed.old).faults ≤ (shows feed.new).faults }
     ensures kept { IfOk result (λ r. r.end ≢ at.Fault → (shows feed.new).faults ≡ (shows feed.old).faults) }
     ensures memory_kept { OnErr result ((shows feed.new).faults ≡ (shows feed.old).faults) }
-    ensures memory { OnErr result ((gave more : List FeedItem) × (length more ≤ 1) × Gave (shows feed.old).left (gave ++ more) (shows feed.new).left × (T.table into.new ≡ after_items layer.now langs.now place (T.table into.old) gave)) }
+    ensures memory { OnErr result ((gave more : List FeedItem) × (length more ≤ 1) × Gave (shows feed.old).left (gave ++ more) (shows feed.new).left × (T.table into.new ≡ after_items layer.now langs.now place (T.table into.old) gave) × ((shows feed.new).given < 18446744073709551615 → (shows feed.new).given ≡ (shows feed.old).given + length (gave ++ more))) }
 {
     let mut reader = FeatureReader::new(alloc);
     let mut report = LoadReport {
@@ -192,9 +193,9 @@ fn fill<T: Taker>(
     Ok(report)
 }
 
-/// Pulls items from a feed, reads each and puts each that stands for a feature of a layer of the head into that layer, until
-/// the feed has no more, fails, or has given 1,048,576 items. The report says how many items were given, how many of them
-/// stand for no feature, how many features were refused for a limit, and how it ended.
+/// Loads a layer of the head from a feed: pulls items, reads each and puts each that stands for a feature of the layer into
+/// it, until the feed has no more, fails, or has given 1,048,576 items. The report says how many items were given, how many of
+/// them stand for no feature, how many features were refused for a limit, and how it ended.
 ///
 /// After a fault the items given before stand. After want of memory so do those given before the one for which there was
 /// none, at the most one item was given besides, and no pull failed. The feed is pulled no more after either.
@@ -209,15 +210,11 @@ pub fn drain<T: Taker>(
     requires takes { (l : LayerView) → slice_get head.now.layers layer ≡ Some l → T.takes into.old layer l.zoom ≡ true }
     ensures layers { T.takes into.new ≡ T.takes into.old }
     ensures rest { T.with_table into.new ≡ T.with_table into.old }
-    ensures load { (l : LayerView) → slice_get head.now.layers layer ≡ Some l → IfOk result (λ r. (gave : List FeedItem) × Gave (shows feed.old).left gave (shows feed.new).left × IsLoad l head.now.langs layer (T.table into.old) (T.table into.new) r gave) }
-    ensures count { IfOk result (λ r. (shows feed.new).given < 18446744073709551615 → (shows feed.new).given ≡ (shows feed.old).given + r.read) }
-    ensures ended { IfOk result (λ r. r.end ≡ at.End → (r.read < 1048576) × ((items : List FeedItem) → (shows feed.old).left ≡ Some items → r.read ≡ length items)) }
-    ensures fault { IfOk result (λ r. r.end ≡ at.Fault → (r.read < 1048576) × Rose (shows feed.old).faults (shows feed.new).faults) }
-    ensures limit { IfOk result (λ r. (r.end ≡ at.Limit) ↔ (r.read ≡ 1048576)) }
+    ensures load { (l : LayerView) → slice_get head.now.layers layer ≡ Some l → IfOk result (λ r. (load : Load) × IsLoadOf (shows feed.old) (shows feed.new) load × IsAllOf (shows feed.old) (shows feed.new) load
+        × (r ≡ report_of l head.now.langs layer (T.table into.old) load) × (T.table into.new ≡ after_items l head.now.langs layer (T.table into.old) load.gave)) }
     ensures later { (shows feed.old).faults ≤ (shows feed.new).faults }
-    ensures kept { IfOk result (λ r. r.end ≢ at.Fault → (shows feed.new).faults ≡ (shows feed.old).faults) }
     ensures memory_kept { OnErr result ((shows feed.new).faults ≡ (shows feed.old).faults) }
-    ensures memory { (l : LayerView) → slice_get head.now.layers layer ≡ Some l → OnErr result ((gave more : List FeedItem) × (length more ≤ 1) × Gave (shows feed.old).left (gave ++ more) (shows feed.new).left × (T.table into.new ≡ after_items l head.now.langs layer (T.table into.old) gave)) }
+    ensures memory { (l : LayerView) → slice_get head.now.layers layer ≡ Some l → OnErr result ((gave more : List FeedItem) × (length more ≤ 1) × Gave (shows feed.old).left (gave ++ more) (shows feed.new).left × (T.table into.new ≡ after_items l head.now.langs layer (T.table into.old) gave) × ((shows feed.new).given < 18446744073709551615 → (shows feed.new).given ≡ (shows feed.old).given + length (gave ++ more))) }
 {
     fill(
         alloc,

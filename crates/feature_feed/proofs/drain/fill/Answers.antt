@@ -1,8 +1,9 @@
-use Rattle.std.proofs.Common.{◌≡◌, ◌∙◌, ◌+◌, ◌≤◌, [], ◌∷◌, ◌++◌, List, sym, ap, subst, append-nil, ◌<◌, arith}
+use Rattle.std.proofs.Common.{◌≡◌, ◌∙◌, ◌+◌, ◌≤◌, [], ◌∷◌, ◌++◌, List, length, sym, ap, subst, append-nil, ◌<◌, arith}
+use Rattle.std.proofs.lemmas.List.{length-append}
 use Rattle.feature_feed.specs.Drain.{Gave, IsLoad}
 use Rattle.feature_reader.specs.declared.load_report.LoadReport.{LoadReport}
 use Rattle.feature_feed.specs.declared.feed.FeedItem.{FeedItem}
-use Rattle.feature_feed.proofs.Filled.{Filling, filling_more, read_more, bad_within, full_within, gave_same, gave_end, gave_one, given_more, end_more, all_given}
+use Rattle.feature_feed.proofs.Filled.{Filling, filling_more, read_more, bad_within, full_within, gave_same, gave_end, gave_one, given_still, given_more, end_more, all_given}
 use Rattle.feature_feed.proofs.drain.fill.Goals as goal
 
 pub returns-in-Ok-None-clause-load : goal.returns-in-Ok-None-clause-load
@@ -25,7 +26,15 @@ returns-in-Err-Memory-clause-memory g c =
     let now = ((goal.Feed-dyn g (c.loop.feed.vtable, c.loop.feed.value)).shows c.loop.feed.value).left in
     let after = ((goal.Feed-dyn g (c.pull.new.feed.vtable, c.pull.new.feed.value)).shows c.pull.new.feed.value).left in
     let same : Gave before gave after = gave_same before now after gave filling.tells filling.rest c.in-Err-Memory.ensures.unchanged in
-    (gave, [], omega arith, subst (λ (l : List FeedItem). Gave before l after) (sym (append-nil gave)) same, filling.load.table)
+    let read : length (gave ++ []) ≡ c.loop.counter = ap (length {A = FeedItem}) (append-nil gave) ∙ (sym filling.load.read ∙ c.loop.invariant.read) in
+    let count = rw c.in-Err-Memory.is at c.pull.ensures.count in (
+      gave,
+      [],
+      omega arith,
+      subst (λ (l : List FeedItem). Gave before l after) (sym (append-nil gave)) same,
+      filling.load.table,
+      given_still _ _ _ c.loop.counter _ count c.loop.invariant.count read,
+    )
 
 pub returns-in_default-clause-memory : goal.returns-in_default-clause-memory
 returns-in_default-clause-memory g c =
@@ -35,7 +44,14 @@ returns-in_default-clause-memory g c =
     let now = ((goal.Feed-dyn g (c.loop.feed.vtable, c.loop.feed.value)).shows c.loop.feed.value).left in
     let after = ((goal.Feed-dyn g (c.pull.new.feed.vtable, c.pull.new.feed.value)).shows c.pull.new.feed.value).left in
     let given : Gave before (gave ++ c.in-Ok-Some.item ∷ []) after = gave_one before now after gave c.in-Ok-Some.item filling.tells filling.rest (rw c.in-Ok-Some.field-0-is at c.in-Ok-Some.ensures.taken) c.pull.ensures.told in
-    (gave, c.in-Ok-Some.item ∷ [], omega arith, given, c.in_default.ensures.memory ∙ filling.load.table)
+    let read : length (gave ++ c.in-Ok-Some.item ∷ []) ≡ c.loop.counter + 1 = length-append gave (c.in-Ok-Some.item ∷ []) ∙ ap (λ n. n + 1) (sym filling.load.read ∙ c.loop.invariant.read) in (
+      gave,
+      c.in-Ok-Some.item ∷ [],
+      omega arith,
+      given,
+      c.in_default.ensures.memory ∙ filling.load.table,
+      λ low. let more = given_more _ _ _ c.loop.counter (rw c.in-Ok-Some.field-0-is at c.in-Ok-Some.ensures.count) c.loop.invariant.count low in omega (arith, more, read),
+    )
 
 pub loop-preserved : goal.loop-preserved
 loop-preserved g c =
