@@ -2,8 +2,8 @@
 
 ghost use Rattle.std.specs.Prelude.{◌≡◌, ◌≢◌, ◌↔◌, ◌≤◌, length, map, string_bytes, true, false};
 ghost use Rattle.std.specs.Io.KnownBytes.{Keeps};
-ghost use Rattle.geo_outside.specs.Device.{Rose};
-ghost use Rattle.query_server.specs.Promise.{byte_limit, EndsAs, IsDecided};
+ghost use Rattle.geo_outside.specs.Device.{Rose, most_bytes};
+ghost use Rattle.query_server.specs.Promise.{EndsAs, IsDecided};
 ghost use Rattle.session_text.specs.declared.session.Kind.TheVariants.{Asks};
 ghost use Rattle.carmen_cli.specs.TopCall.{asks_for_plain};
 
@@ -49,7 +49,7 @@ pub fn carmen<R: AllocGlobal, S: Source, K: Sink>(
     feeds: &mut Vec<Box<dyn Feed>>,
 ) -> Status
     requires feeds { length feeds.old.items ≤ 4294967295 }
-    ensures session { EndsAs byte_limit Asks (S.left source.old) (S.left source.new) (K.contents sink.old) (K.contents sink.new)
+    ensures session { EndsAs most_bytes Asks (S.left source.old) (S.left source.new) (K.contents sink.old) (K.contents sink.new)
         (map (λ b. shows b) feeds.old.items) (map (λ b. shows b) feeds.new.items) result }
     ensures usage { (result ≡ Status.Usage) ↔ (asks_for_plain (map string_bytes words.now) ≡ false) }
     ensures untouched { result ≡ Status.Usage → Keeps (S.left source.old) (S.left source.new) × Keeps (K.contents sink.old) (K.contents sink.new)
@@ -59,7 +59,7 @@ pub fn carmen<R: AllocGlobal, S: Source, K: Sink>(
     ensures write_fault { result ≡ Status.WriteFault → Rose (K.faults sink.old) (K.faults sink.new) }
     ensures decided { asks_for_plain (map string_bytes words.now) ≡ true
         → ¬ (Rose (S.faults source.old) (S.faults source.new)) → ¬ (Rose (K.faults sink.old) (K.faults sink.new))
-        → IsDecided byte_limit Asks (length feeds.old.items) (S.left source.old) result }
+        → IsDecided most_bytes Asks (length feeds.old.items) (S.left source.old) result }
     ensures later { (S.faults source.old ≤ S.faults source.new) × (K.faults sink.old ≤ K.faults sink.new) }
     ensures kept { (result ≢ Status.ReadFault → S.faults source.new ≡ S.faults source.old) × (result ≢ Status.WriteFault → K.faults sink.new ≡ K.faults sink.old) }
 {

@@ -5,7 +5,8 @@ use Rattle.std.specs.Option.{is_some}
 use Rattle.csv.specs.Reading.{strip_bom}
 use Rattle.csv.specs.declared.parser.State.TheVariants as st
 use Rattle.feature_feed.specs.Csv.{csv_items, row_items, without_header}
-use Rattle.feature_feed.specs.Feed.{Gives, most_bytes}
+use Rattle.geo_outside.specs.Device.{most_bytes}
+use Rattle.feature_feed.specs.Feed.{Gives}
 use Rattle.feature_feed.specs.CsvRows.{Rows, rows_from, GivesRow}
 use Rattle.feature_feed.specs.CsvFeed.{left_at, given_at}
 use Rattle.feature_feed.specs.Taking.{all_bytes}

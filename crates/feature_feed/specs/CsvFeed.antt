@@ -1,7 +1,7 @@
 -- What a feed of the rows of a source shows.
 use Rattle.std.specs.Prelude.{ℕ, List, ◌++◌, take, Option, Some, None, option_map}
-use Rattle.feature_feed.specs.Feed.{most_bytes}
 use Rattle.feature_feed.specs.Csv.{csv_items, row_items}
+use Rattle.geo_outside.specs.Device.{most_bytes}
 use Rattle.feature_feed.specs.declared.csv_feed.Opened.{Opened}
 use Rattle.feature_feed.specs.declared.feed.FeedItem.{FeedItem}
 

@@ -14,10 +14,6 @@ pub record FeedView : Type 0 where
 abbrev pub feed_view : Option (List FeedItem) → ℕ → ℕ → FeedView
 feed_view left given faults = record { left = left; given = given; faults = faults }
 
--- the most bytes of a source that a feed of it reads, as if it ended there
-abbrev pub most_bytes : ℕ
-most_bytes = 268435456
-
 -- the feed of this number, counted from 0; behind the last one, one that tells nothing
 abbrev pub feed_at : List FeedView → ℕ → FeedView
 feed_at feeds n = slice_index_or feeds n (feed_view None 0 0)

@@ -1,18 +1,18 @@
 //! A feed of the rows of a source of CSV.
 
 ghost use Rattle.std.specs.Prelude.{◌≡◌, ◌≢◌, ◌≤◌, List, Some, None, Err, IfOk, OnErr, option_map, take};
-ghost use Rattle.geo_outside.specs.Device.{Rose};
+ghost use Rattle.geo_outside.specs.Device.{Rose, most_bytes};
 ghost use Rattle.feature_feed.specs.Csv.{csv_items, row_items};
-ghost use Rattle.feature_feed.specs.Feed.{Gives, given_after, most_bytes};
+ghost use Rattle.feature_feed.specs.Feed.{Gives, given_after};
 ghost use Rattle.feature_feed.specs.declared.feed.FeedItem.{FeedItem};
 
 use crate::csv_rows::Rows;
-use crate::feed::{Feed, FeedError, FeedItem, MOST_BYTES};
+use crate::feed::{Feed, FeedError, FeedItem};
 use crate::steady_source::SteadySource;
 use crate::taking::take_source;
 use feature_reader::raw::RawRow;
 use geo_base::refusal::Memory;
-use geo_outside::device::Source;
+use geo_outside::device::{MOST_BYTES, Source};
 use std::alloc::Global;
 use std::marker::Model;
 use std::mem::replace;

@@ -7,9 +7,6 @@ ghost use Rattle.feature_feed.specs.declared.feed.FeedItem.{FeedItem};
 
 use feature_reader::raw::{RawRow, RawText};
 
-/// The most bytes of a source that a feed of it reads.
-pub(crate) const MOST_BYTES: usize = 268_435_456;
-
 /// What may stand for a feature.
 #[derive(Drop)]
 pub enum FeedItem {

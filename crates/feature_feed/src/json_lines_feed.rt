@@ -2,8 +2,8 @@
 
 ghost use Rattle.std.specs.Prelude.{◌≡◌, ◌≢◌, ◌≤◌, List, Some, Err, IfOk, OnErr, take};
 ghost use Rattle.std.specs.Option.{option_map};
-ghost use Rattle.geo_outside.specs.Device.{Rose};
-ghost use Rattle.feature_feed.specs.Feed.{Gives, given_after, most_bytes};
+ghost use Rattle.geo_outside.specs.Device.{Rose, most_bytes};
+ghost use Rattle.feature_feed.specs.Feed.{Gives, given_after};
 ghost use Rattle.feature_feed.specs.JsonLines.{json_items};
 ghost use Rattle.feature_feed.specs.declared.feed.FeedItem.{FeedItem};
 

@@ -1,17 +1,16 @@
 //! The lines of a source, each taken when it has come.
 
 ghost use Rattle.std.specs.Prelude.{◌≡◌, ◌≢◌, ◌≤◌, ◌<◌, ◌+◌, [], Err, IfOk, IfSome, OnOk, OnErr, MatchOption, length};
-ghost use Rattle.geo_outside.specs.Device.{Rose};
-ghost use Rattle.feature_feed.specs.Feed.{most_bytes};
+ghost use Rattle.geo_outside.specs.Device.{Rose, most_bytes};
 ghost use Rattle.geo_text.specs.Bytes.{NoLineFeed};
 ghost use Rattle.feature_feed.specs.JsonLines.{bytes_left, lines_left, items_left, onto, IsNoneLeft};
 ghost use Rattle.feature_feed.specs.declared.feed.FeedItem.TheVariants as item;
 
-use crate::feed::{FeedError, MOST_BYTES};
+use crate::feed::FeedError;
 use crate::line_buffer::LineBuffer;
 use crate::steady_source::SteadySource;
 use geo_base::refusal::Memory;
-use geo_outside::device::Source;
+use geo_outside::device::{MOST_BYTES, Source};
 use std::alloc::Global;
 
 /// A source, what has come of it and wasn't taken yet, and how many bytes may be read yet.

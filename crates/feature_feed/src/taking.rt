@@ -2,13 +2,12 @@
 
 ghost use Rattle.std.specs.Prelude.{◌≡◌, ◌≢◌, ◌≤◌, ◌<◌, ◌+◌, ◌++◌, ℕ, List, Some, Err, IfOk, OnOk, length, take};
 ghost use Rattle.std.specs.Io.KnownBytes.{IsAtEnd};
-ghost use Rattle.geo_outside.specs.Device.{Rose};
-ghost use Rattle.feature_feed.specs.Feed.{most_bytes};
+ghost use Rattle.geo_outside.specs.Device.{Rose, most_bytes};
 ghost use Rattle.feature_feed.specs.Taking.{all_bytes};
 
-use crate::feed::{FeedError, MOST_BYTES};
+use crate::feed::FeedError;
 use crate::steady_source::SteadySource;
-use geo_outside::device::Source;
+use geo_outside::device::{MOST_BYTES, Source};
 
 /// How many bytes a read asks for at most.
 const BLOCK: usize = 65_536;

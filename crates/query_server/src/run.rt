@@ -1,18 +1,15 @@
 //! A session from a source, its answers to a sink.
 
 ghost use Rattle.std.specs.Prelude.{◌≡◌, ◌≢◌, ◌≤◌, length, map};
-ghost use Rattle.geo_outside.specs.Device.{Rose};
-ghost use Rattle.query_server.specs.Promise.{byte_limit, EndsAs, IsDecided};
+ghost use Rattle.geo_outside.specs.Device.{Rose, most_bytes};
+ghost use Rattle.query_server.specs.Promise.{EndsAs, IsDecided};
 
 use crate::running::Running;
 use feature_feed::feed::Feed;
-use geo_outside::device::{Sink, Source};
+use geo_outside::device::{MOST_BYTES, Sink, Source};
 use session_text::session::Kind;
 use session_text::status::Status;
 use std::alloc::Global;
-
-/// The most bytes that are taken from a source.
-const BYTE_LIMIT: usize = 268_435_456;
 
 /// The most bytes that are asked for at once.
 const BLOCK: usize = 65_536;
@@ -48,20 +45,20 @@ pub fn run_plain<S: Source, K: Sink>(
     feeds: &mut Vec<Box<dyn Feed>>,
 ) -> Status
     requires feeds { length feeds.old.items ≤ 4294967295 }
-    ensures session { EndsAs byte_limit kind (S.left source.old) (S.left source.new) (K.contents sink.old) (K.contents sink.new) (map (λ b. shows b) feeds.old.items) (map (λ b. shows b) feeds.new.items) result }
+    ensures session { EndsAs most_bytes kind (S.left source.old) (S.left source.new) (K.contents sink.old) (K.contents sink.new) (map (λ b. shows b) feeds.old.items) (map (λ b. shows b) feeds.new.items) result }
     ensures usage { ¬ (result ≡ Status.Usage) }
     ensures read_fault { result ≡ Status.ReadFault → Rose (S.faults source.old) (S.faults source.new) }
     ensures write_fault { result ≡ Status.WriteFault → Rose (K.faults sink.old) (K.faults sink.new) }
     ensures decided { ¬ (Rose (S.faults source.old) (S.faults source.new)) → ¬ (Rose (K.faults sink.old) (K.faults sink.new))
-        → IsDecided byte_limit kind (length feeds.old.items) (S.left source.old) result }
+        → IsDecided most_bytes kind (length feeds.old.items) (S.left source.old) result }
     ensures later { (S.faults source.old ≤ S.faults source.new) × (K.faults sink.old ≤ K.faults sink.new) }
     ensures kept { (result ≢ Status.ReadFault → S.faults source.new ≡ S.faults source.old) × (result ≢ Status.WriteFault → K.faults sink.new ≡ K.faults sink.old) }
 {
     let mut running = Running::new(alloc, feeds.len() as u32, kind);
     let mut block = [0u8; BLOCK];
     let mut taken = 0;
-    while taken < BYTE_LIMIT {
-        let room = BLOCK.min(BYTE_LIMIT - taken);
+    while taken < MOST_BYTES {
+        let room = BLOCK.min(MOST_BYTES - taken);
         let Ok(n) = source.read(&mut block[..room]) else {
             return Status::ReadFault;
         };

@@ -1,5 +1,5 @@
 use Rattle.std.proofs.Common.{◌∙◌, arith}
-use Rattle.feature_feed.specs.Feed.{most_bytes}
+use Rattle.geo_outside.specs.Device.{most_bytes}
 use Rattle.feature_feed.proofs.TakingFacts.{whole_at_end, whole_at_limit}
 use Rattle.feature_feed.proofs.taking.take_source.Goals as goal
 

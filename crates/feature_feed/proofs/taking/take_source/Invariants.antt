@@ -1,5 +1,5 @@
 use Rattle.std.proofs.Common.{◌≡◌, ◌-◌, length}
-use Rattle.feature_feed.specs.Feed.{most_bytes}
+use Rattle.geo_outside.specs.Device.{most_bytes}
 use Rattle.feature_feed.specs.Taking.{all_bytes}
 use Rattle.feature_feed.proofs.taking.take_source.Given as goal
 

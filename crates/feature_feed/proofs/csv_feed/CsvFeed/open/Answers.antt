@@ -1,5 +1,6 @@
 use Rattle.std.proofs.Common.{◌∙◌, sym, ap, take, ℕ, Vec, Global}
-use Rattle.feature_feed.specs.Feed.{FeedView, most_bytes}
+use Rattle.geo_outside.specs.Device.{most_bytes}
+use Rattle.feature_feed.specs.Feed.{FeedView}
 use Rattle.feature_feed.proofs.CsvFeedFacts.{left_by_bytes, opened_left}
 use Rattle.feature_feed.proofs.csv_feed.CsvFeed.open.Goals as goal
 

@@ -1,5 +1,5 @@
 use Rattle.feature_feed.proofs.LinesLeft.{from_start}
-use Rattle.feature_feed.specs.Feed.{most_bytes}
+use Rattle.geo_outside.specs.Device.{most_bytes}
 use Rattle.feature_feed.proofs.json_lines_feed.JsonLinesFeed.make.Goals as goal
 
 pub returns-clause-left : goal.returns-clause-left
