@@ -1,6 +1,6 @@
 //! Reads the lines of a session's head.
 
-ghost use Rattle.std.specs.Prelude.{◌≡◌, ◌≢◌, false, Ok, Err, IfOk};
+ghost use Rattle.std.specs.Prelude.{◌≡◌, false, Ok, Err, IfOk};
 ghost use Rattle.geo_base.specs.declared.refusal.Refused.TheVariants as refused;
 ghost use Rattle.session_text.specs.Session.{SessionView, Fits, title_line, langs_line, layer_line, needs_no_room};
 ghost use Rattle.session_text.specs.declared.why.Why.{Why};
@@ -18,14 +18,12 @@ use geo_text::cut::after_word_of;
 use std::alloc::Global;
 
 /// The title of a session, `carmen 1`, which spaces may follow.
-pub fn read_title(text: &[u8]) -> Result<Item, Refused<Why>>
-    ensures ok { IfOk result (λ item. title_line text.now ≡ Ok item) }
-    ensures fault { (why : Why) → result ≡ Err (refused.Fault why) → title_line text.now ≡ Err why }
-    ensures no_memory { result ≢ Err refused.Memory }
+pub fn read_title(text: &[u8]) -> Result<Item, Why>
+    ensures { result ≡ title_line text.now }
 {
     match text.strip_prefix(b"carmen 1") {
         Some(rest) if are_spaces(rest) => Ok(Item::Title),
-        _ => Err(Refused::Fault(Why::Head)),
+        _ => Err(Why::Head),
     }
 }
 

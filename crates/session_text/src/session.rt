@@ -25,7 +25,7 @@ use std::alloc::Global;
 use std::marker::Model;
 
 /// The most bytes of a line, with a carriage return at its end.
-const LONGEST: usize = 1_048_576;
+pub const LONGEST: usize = 1_048_576;
 
 /// Which lines of a session may ask.
 #[derive(Clone, Copy, Debug, PartialEq, Eq)]
@@ -171,7 +171,7 @@ impl Session {
             return Ok(Item::Skipped);
         }
         match self.stage {
-            Stage::BeforeHead => read_title(text.as_bytes()),
+            Stage::BeforeHead => told(read_title(text.as_bytes())),
             Stage::AfterTitle => self.read_head(true, text),
             Stage::InHead => self.read_head(false, text),
             Stage::InBody | Stage::Ended => self.read_body(text),
