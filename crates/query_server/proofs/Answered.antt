@@ -16,6 +16,10 @@ use Rattle.plain_answer.specs.Links.{links}
 not_over : (n limit : ℕ) → n ≤ limit → nat_lt limit n ≡ false
 not_over n limit within = grind (arith, nat_tests)
 
+-- an answer by its parts
+pub answer_is : (a : Answer) (tokens : ℕ) (contexts : List (List Link)) → a.tokens ≡ tokens → a.contexts ≡ contexts → a ≡ record { tokens = tokens; contexts = contexts }
+answer_is a tokens contexts long found = ap (λ (n : ℕ). record { tokens = n; contexts = a.contexts }) long ∙ ap (λ (c : List (List Link)). record { tokens = tokens; contexts = c }) found
+
 -- so there is the answer of the links
 pub answered : (g : GenerationView) (q : QueryView) (tokens : ℕ) (contexts : List (List Link)) (a : Answer) → count g.head g.table q ≤ g.limit → a ≡ record { tokens = tokens; contexts = contexts }
     → tokens ≡ length q.tokens → contexts ≡ best (compat g.head.layers) (links g.head g.table q) → answer_of g.head g.table g.limit q ≡ Ok a

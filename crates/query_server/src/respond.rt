@@ -38,7 +38,8 @@ use geo_text::text::Text;
 use phrase_match::laws::job_is_right;
 use phrase_match::matching::matches;
 use phrase_match::plain_rows::PlainRows;
-use plain_answer::job_answer::answer_job;
+use search_core::kept_rows::KeptRows;
+use search_core::one::search_alone;
 use session_text::body::{BodyLine, Round};
 use session_text::write::{
     write_drop, write_limit, write_load, write_published, write_put, write_reply,
@@ -74,7 +75,7 @@ impl Standing {
     }
 }
 
-/// The answer of a generation to a query: by its job, whose pieces are found and counted before any is decoded.
+/// The answer of a generation to a query: the search of its job, whose pieces are found and counted before any is decoded.
 fn answer_in(
     alloc: Global,
     generation: &Generation,
@@ -87,8 +88,10 @@ fn answer_in(
     let _tokens = query.tokens(); // brings the rule of a query here
     let _number = generation.number(); // brings the rule of a generation here
     let job = matches(alloc, generation, query)?;
-    let mut rows = PlainRows::new(alloc, generation, query);
-    Ok(answer_job(alloc, &job, &mut rows)?)
+    let plain = PlainRows::new(alloc, generation, query);
+    let mut rows = KeptRows::new(alloc, plain, job.pieces.as_slice().len())?;
+    let found = search_alone(alloc, &job, &mut rows)?;
+    Ok(found.top.answer(job.tokens))
 }
 
 /// The reply of a generation to a query that was read.
