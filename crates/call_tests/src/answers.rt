@@ -5,14 +5,16 @@ ghost use Rattle.std.specs.List.{list_all};
 ghost use Rattle.feature_reader.specs.Table.{IsOfHead};
 
 use crate::features::{feature_of, place};
-use crate::generations::{generation_of, job_reply};
+use crate::generations::{generation_of, job_reply, search_reply};
 use crate::layers::{add_layer, langs_of};
 use crate::queries::query_of;
+use crate::searches::{fetches, replayed};
 use crate::texts::{replace, word};
 use feature_reader::feature::Feature;
 use feature_reader::phrase::{Phrase, Phrases};
 use feature_reader::table::FeatureTable;
 use feature_reader::taker::Taker;
+use geo_base::event::{Event, ReplayFault};
 use geo_base::grids::Grids;
 use geo_base::lang_set::LangSet;
 use geo_base::refusal::Refused;
@@ -70,7 +72,16 @@ fn add(rt: &impl Abort, head: &Head, table: &mut FeatureTable, layer: u8, f: Fea
     }
 }
 
-/// Appends the reply to a query by its definition, and compares it with that of a generation of the same features by its job.
+/// Compares a reply with the one whose text ends a list of bytes, from a place on.
+fn compare(rt: &impl Abort, alloc: Global, out: &Vec<u8>, from: usize, reply: &Reply) {
+    let mut text = Vec::new(alloc);
+    write_reply(&mut text, 0, 0, reply).expect(rt, "memory");
+    assert!(rt; out.as_slice().ends_with(text.as_slice()));
+    assert_eq!(rt; out.len(), from + text.len());
+}
+
+/// Appends the reply to a query by its definition, and compares it with those of a generation of the same features: by the
+/// filter over the cells of its job, and by the search of its job.
 fn push_reply(
     rt: &impl Abort,
     alloc: Global,
@@ -98,11 +109,10 @@ fn push_reply(
     let before = out.len();
     write_reply(out, 0, 0, &reply).expect(rt, "memory");
     let generation = generation_of(rt, alloc, head, table, limit);
-    let mut by_job = Vec::new(alloc);
-    let reply = job_reply(rt, alloc, &generation, &query);
-    write_reply(&mut by_job, 0, 0, &reply).expect(rt, "memory");
-    assert!(rt; out.as_slice().ends_with(by_job.as_slice()));
-    assert_eq!(rt; out.len(), before + by_job.len());
+    let by_filter = job_reply(rt, alloc, &generation, &query);
+    compare(rt, alloc, out, before, &by_filter);
+    let by_search = search_reply(rt, alloc, &generation, &query);
+    compare(rt, alloc, out, before, &by_search);
 }
 
 /// A layer of zoom 6 in which `street` is replaced by `st`.
@@ -218,6 +228,49 @@ fn replacements_languages_and_limits_count(rt: HostRuntime) {
         .expect(&rt, "memory");
     }
     assert!(rt; out.as_slice() == wanted.as_bytes());
+}
+
+#[test]
+fn a_search_fetches_each_piece_once(rt: HostRuntime) {
+    let alloc = rt.alloc();
+    let head = two_layers(&rt, alloc);
+    let table = table_of(&rt, alloc, &head);
+    let generation = generation_of(&rt, alloc, &head, &table, 2_000_000);
+    let query = query_of(&rt, alloc, "main street france")
+        .ok()
+        .expect(&rt, "a query");
+    let (fetched, pieces) = fetches(&rt, alloc, &generation, &query);
+    assert_eq!(rt; pieces, 2);
+    assert_eq!(rt; fetched, 2);
+}
+
+#[test]
+fn a_replay_finds_what_the_search_finds_or_says_why_not(rt: HostRuntime) {
+    let alloc = rt.alloc();
+    let head = two_layers(&rt, alloc);
+    let table = table_of(&rt, alloc, &head);
+    let generation = generation_of(&rt, alloc, &head, &table, 2_000_000);
+    let query = query_of(&rt, alloc, "springfield")
+        .ok()
+        .expect(&rt, "a query");
+    let whole = [
+        Event::Claim(1),
+        Event::Open(1),
+        Event::Raise(1),
+        Event::Look(0),
+    ];
+    match replayed(&rt, alloc, &generation, &query, &whole) {
+        Ok(same) => assert!(rt; same),
+        Err(_) => panic!(&rt; "every root is done"),
+    }
+    match replayed(&rt, alloc, &generation, &query, &whole[..1]) {
+        Err(ReplayFault::Unfinished { root }) => assert_eq!(&rt; root, 0),
+        _ => panic!(&rt; "a root is left"),
+    }
+    match replayed(&rt, alloc, &generation, &query, &whole[1..]) {
+        Err(ReplayFault::Illegal { place }) => assert_eq!(&rt; place, 0),
+        _ => panic!(&rt; "there is nothing to open"),
+    }
 }
 
 /// A head of 16 layers of zoom 6.

@@ -20,6 +20,8 @@ use phrase_match::laws::job_is_right;
 use phrase_match::matching::matches;
 use phrase_match::plain_rows::PlainRows;
 use plain_answer::job_answer::answer_job;
+use search_core::kept_rows::KeptRows;
+use search_core::one::search_alone;
 use std::alloc::Global;
 use std::process::Abort;
 use std::sync::Arc;
@@ -89,6 +91,36 @@ pub fn job_reply(rt: &impl Abort, alloc: Global, generation: &Generation, query:
             Reply::Found {
                 generation: number,
                 answer: answer_job(alloc, &job, &mut rows).expect(rt, "memory"),
+            }
+        }
+        Err(Refused::Fault(Grids { total, limit })) => Reply::Grids {
+            generation: number,
+            total,
+            limit,
+        },
+        Err(Refused::Memory) => panic!(rt; "want of memory"),
+    }
+}
+
+/// The reply of a generation to a query, by the search of its job.
+pub fn search_reply(
+    rt: &impl Abort,
+    alloc: Global,
+    generation: &Generation,
+    query: &Query,
+) -> Reply {
+    job_is_right();
+    let _tokens = query.tokens(); // brings the rule of a query here
+    let number = generation.number();
+    match matches(alloc, generation, query) {
+        Ok(job) => {
+            let plain = PlainRows::new(alloc, generation, query);
+            let pieces = job.pieces.as_slice().len();
+            let mut rows = KeptRows::new(alloc, plain, pieces).expect(rt, "memory");
+            let found = search_alone(alloc, &job, &mut rows).expect(rt, "memory");
+            Reply::Found {
+                generation: number,
+                answer: found.top.answer(job.tokens),
             }
         }
         Err(Refused::Fault(Grids { total, limit })) => Reply::Grids {

@@ -28,7 +28,7 @@ pub const BASE: &str =
 /// What is written for them.
 pub const BASE_OUT: &str = "put 0 1 new\nput 2 2 new\npublished 1\n";
 
-pub const ROWS: [Row; 39] = [
+pub const ROWS: [Row; 40] = [
     Row {
         name: "a city and its country",
         session: &[(BASE, 0, 0), ("ask 0 new york usa\nend\n", 0, 0)],
@@ -74,6 +74,37 @@ pub const ROWS: [Row; 39] = [
                 0,
             ),
         ],
+    },
+    Row {
+        name: "a place in a region in a country",
+        session: &[
+            (
+                "carmen 1\nlangs fr\nlayer {\"name\":\"country\",\"zoom\":6}\nlayer {\"name\":\"region\",\"zoom\":6}\nlayer {\"name\":\"place\",\"zoom\":6}\n",
+                0,
+                0,
+            ),
+            (
+                "put 0 {\"id\":1,\"properties\":{\"carmen:text\":\"USA\",\"carmen:zxy\":[\"6/32/32\",\"6/33/32\"]}}\n",
+                0,
+                0,
+            ),
+            (
+                "put 2 {\"id\":2,\"properties\":{\"carmen:text\":\"New York,NYC\",\"carmen:zxy\":[\"6/32/32\"],\"carmen:score\":9}}\n",
+                0,
+                0,
+            ),
+            (
+                "put 1 {\"id\":4,\"properties\":{\"carmen:text\":\"NY State\",\"carmen:zxy\":[\"6/32/32\"]}}\npublish\nask 0 nyc ny state usa\nend\n",
+                0,
+                0,
+            ),
+        ],
+        status: Status::Done,
+        text: &[(
+            "put 0 1 new\nput 2 2 new\nput 1 4 new\npublished 1\nask 0 0 gen 1 found 3\ncontext 38000/40000 score 9 2:2@6/32/32[0,1)=8000 1:4@6/32/32[1,3)=20000 0:1@6/32/32[3,4)=10000\ncontext 30000/40000 score 0 1:4@6/32/32[1,3)=20000 0:1@6/32/32[3,4)=10000\ncontext 10000/40000 score 0 0:1@6/32/32[3,4)=10000\n",
+            0,
+            0,
+        )],
     },
     Row {
         name: "two runs of one layer",
