@@ -32,15 +32,20 @@ pub fn coalesce_multi(
     ensures { IfOk result (λ r. r ≡ with_parents (piece_links p.now cells.now) s.now) }
 {
     let ready = ReadyCells::new(alloc, p, cells)?;
-    coalesce_ready(alloc, s, &ready)
+    coalesce_ready(s, &ready, Survivors::new(alloc))
 }
 
-/// The same with the cells of a piece that were made ready before, under the same condition.
-pub fn coalesce_ready(alloc: Global, s: &Survivors, ready: &ReadyCells) -> Result<Survivors, Memory>
+/// The same with cells that were made ready before, in the room of contexts that aren't needed any more, under the same condition.
+pub fn coalesce_ready(
+    s: &Survivors,
+    ready: &ReadyCells,
+    room: Survivors,
+) -> Result<Survivors, Memory>
     requires { All (FitsBelow ready.now) s.now }
     ensures { IfOk result (λ r. r ≡ with_parents ready.now s.now) }
 {
-    let mut longer = Survivors::new(alloc);
+    let mut longer = room;
+    longer.clear();
     for place in 0..s.len() {
         join(ready, s.at(place), &mut longer)?;
     }

@@ -5,7 +5,6 @@ ghost use Rattle.geo_base.specs.Job.{piece_links};
 
 use geo_base::cells::Cells;
 use geo_base::job::Piece;
-use geo_base::link::Link;
 use geo_base::refusal::Memory;
 use geo_base::survivors::Survivors;
 use std::alloc::Global;
@@ -16,16 +15,7 @@ pub fn coalesce_single(alloc: Global, p: &Piece, cells: &Cells) -> Result<Surviv
 {
     let mut survivors = Survivors::new(alloc);
     for cell in cells.as_slice() {
-        let link = Link {
-            layer: p.layer,
-            from: p.from,
-            to: p.to,
-            id: cell.id,
-            tile: cell.tile,
-            value: cell.value,
-            score: cell.score,
-        };
-        survivors.push(&[], link)?;
+        survivors.push(&[], p.link(cell))?;
     }
     Ok(survivors)
 }

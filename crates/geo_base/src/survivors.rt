@@ -44,6 +44,15 @@ impl Survivors {
         }
     }
 
+    /// Leaves no contexts, and keeps the room of those that were held.
+    pub fn clear(&mut self)
+        ensures { self.new ≡ [] }
+    {
+        self.links.clear();
+        self.count = 0;
+        self.stride = 1;
+    }
+
     /// Adds the context of some links and one more below them, which is as long as each that is held.
     /// After want of memory all is as before.
     pub fn push(&mut self, front: &[Link], last: Link) -> Result<(), Memory>

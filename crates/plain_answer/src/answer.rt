@@ -44,5 +44,5 @@ pub fn answer_plain(
     let links = links_of(alloc, head, table, query, &tokens)?;
     let stacks = head.layers.stacks();
     let top = best_contexts(alloc, &stacks, &links)?;
-    Ok(top.answer(query.tokens().len() as u8))
+    Ok(top.into_answer(query.tokens().len() as u8))
 }

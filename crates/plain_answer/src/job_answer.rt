@@ -20,15 +20,7 @@ fn add_cells(links: &mut Vec<Link>, piece: &Piece, cells: &[Cell]) -> Result<(),
     ensures { OnOk result (links.new.items ≡ links.old.items ++ map (cell_link piece.now) cells.now) }
 {
     for cell in cells {
-        links.push(Link {
-            layer: piece.layer,
-            from: piece.from,
-            to: piece.to,
-            id: cell.id,
-            tile: cell.tile,
-            value: cell.value,
-            score: cell.score,
-        })?;
+        links.push(piece.link(cell))?;
     }
     Ok(())
 }
@@ -54,5 +46,5 @@ pub fn answer_job<R: Rows>(alloc: Global, job: &Job, rows: &mut R) -> Result<Ans
         add_cells(&mut links, piece, cells.as_slice())?;
     }
     let top = best_contexts(alloc, &job.stacks, &links)?;
-    Ok(top.answer(job.tokens))
+    Ok(top.into_answer(job.tokens))
 }

@@ -1,7 +1,7 @@
 -- Along the search by one worker: what it has still to do leads to the end of the run, and what it counted is what is missing.
 use Rattle.std.proofs.Common.{◌≡◌, ℕ, zero, suc, ◌+◌, ◌-◌, ◌<◌, ◌≤◌, min, max, Bool, true, false, cond, not, is_none, List, [], ◌∷◌, ◌++◌, length, All, refl, sym, ◌∙◌, ap, subst, arith, append-nil, Some, slice_get, ◌^◌}
 use Rattle.std.specs.Prelude.{count_by}
-use Rattle.std.proofs.lemmas.Bool.{ltb-false, le-leb}
+use Rattle.std.proofs.lemmas.Bool.{ltb-true, ltb-false, le-leb, lt-leb}
 use Rattle.std.proofs.lemmas.List.Sums.{sum_by-append}
 use Rattle.geo_base.specs.declared.cells.Cell.{Cell}
 use Rattle.geo_base.specs.declared.job.Job.{Job}
@@ -9,9 +9,9 @@ use Rattle.geo_base.specs.declared.event.Event.{Event}
 use Rattle.geo_base.specs.declared.event.Event.TheVariants.{Claim, Look, Cut, Open, Raise}
 use Rattle.geo_base.specs.Job.{Fits, job_best}
 use Rattle.stackable.specs.Partial.{bound, partials, roots, IsPartial}
-use Rattle.search_core.specs.Machine.{WorkerState, State, idle_worker, worker_of, top_partial, is_low, is_high, may_cut, may_open, claimed, looked, cut, opened, turns, turn, after, is_open, is_cut, opens, cuts, worker_at}
+use Rattle.search_core.specs.Machine.{WorkerState, State, worker_of, top_partial, is_low, is_high, may_cut, may_open, claimed, looked, cut, opened, turns, turn, after, is_open, is_cut, opens, cuts, worker_at}
 use Rattle.top_list.specs.Merged.{floor_of}
-use Rattle.search_core.specs.Covers.{IsTop, IsGood}
+use Rattle.search_core.specs.Covers.{IsGood}
 use Rattle.search_core.proofs.SearchFacts.{run_is_good}
 use Rattle.search_core.specs.Alone.{alone, turns_left, last_state, one_if}
 use Rattle.search_core.specs.Hand.{Hand, as_worker}
@@ -36,7 +36,7 @@ pub record IsAlong (job : Job) (cells : List (List Cell)) (n floor : ℕ) (h : H
 
 module _ (job : Job) (cells : List (List Cell)) (fits : Fits job cells) where
   -- at the start
-  pub starts : (steps : ℕ) (h : Hand) → h ≡ record { stack = []; seen = 0; top = [] } → IsAlong job cells 0 0 h 0 0 steps steps
+  pub starts : (steps : ℕ) (h : Hand) → h ≡ record { job = job; stack = []; seen = 0; top = [] } → IsAlong job cells 0 0 h 0 0 steps steps
   starts steps h e = subst (λ (x : Hand). IsAlong job cells 0 0 x 0 0 steps steps) (sym e) (record {
     claims = [];
     left = length job.pieces + length (partials job);
@@ -144,10 +144,6 @@ module _ (job : Job) (cells : List (List Cell)) (fits : Fits job cells) where
               let ticks_now : after_it ≡ steps + 1 = subst (λ b. after_it ≡ cond b steps (steps + 1)) t ticks in
               (one_turn n f h o c start steps a n g j a.claims (Raise 0 ∷ Look 0 ∷ Open 0 ∷ []) 1 0 step refl refl p d after_it p_now d_now ticks_now, omega (arith, step.fewer))
 
-  -- the list of a worker along the way
-  pub top_along : (n f : ℕ) (h : Hand) (o c start steps : ℕ) → IsAlong job cells n f h o c start steps → IsTop job cells h.top
-  top_along n f h o c start steps a = (a.good.workers 0 idle_worker (omega arith)).top
-
   -- at the end
   pub record IsOver (h : Hand) (o c start steps : ℕ) : Type 0 where
     pub top : h.top ≡ job_best job cells
@@ -181,6 +177,14 @@ may_from job h some low = by_stack h.stack some low
     by_stack : (st : List (List ℕ)) → 0 < length st → is_low job h.seen (top_partial st) ≡ false → is_high job h.seen (top_partial st) ≡ true
     by_stack [] l e = absurd (omega (arith, l))
     by_stack (p ∷ rest) l e = le-leb h.seen (bound job p) (ltb-false (bound job p) h.seen e)
+
+-- one that may cut it may not open it
+pub may_not_from : (job : Job) (w : WorkerState) → may_cut job w ≡ true → may_open job w ≡ false
+may_not_from job w low = by_stack w.stack low
+  where
+    by_stack : (st : List (List ℕ)) → is_low job w.seen (top_partial st) ≡ true → is_high job w.seen (top_partial st) ≡ false
+    by_stack [] e = absurd (cc e)
+    by_stack (p ∷ rest) e = lt-leb w.seen (bound job p) (ltb-true (bound job p) w.seen e)
 
 pub some_from : (st : List (List ℕ)) → is_none (top_partial st) ≡ false → 0 < length st
 some_from [] e = absurd (cc e)

@@ -1,23 +1,18 @@
 -- Along a replay: the state of its workers is that of the events so far.
-use Rattle.std.proofs.Common.{◌≡◌, ℕ, zero, suc, ◌+◌, ◌*◌, ◌<◌, ◌≤◌, Bool, true, false, cond, not, ⊎_elim, ◌⊎◌, inl, inr, List, [], ◌∷◌, ◌++◌, length, map, get_or, drop, reverse, All, refl, sym, ◌∙◌, ap, subst, arith, Some, None, slice_get, nat_lt, Ordering, Less, Equal, Greater, nat_cmp, nat_eq}
-use Rattle.std.specs.Prelude.{AllPairs, find, Err, ◌||◌, ◌&&◌}
+use Rattle.std.proofs.Common.{◌≡◌, ℕ, zero, suc, ◌+◌, ◌<◌, ◌≤◌, Bool, true, false, cond, not, ⊎_elim, List, [], ◌∷◌, ◌++◌, length, map, get_or, drop, refl, sym, ◌∙◌, ap, subst, arith, Some, None, slice_get, nat_lt, nat_eq}
+use Rattle.std.specs.Prelude.{find, Err, ◌||◌, ◌&&◌}
 use Rattle.std.specs.List.{list_any}
-use Rattle.std.specs.Ordering.{ordering_then}
 use Rattle.std.proofs.lemmas.Bool.{cases_Bool, cases_lt, cond-true, cond-false, lt-ltb}
-use Rattle.std.proofs.lemmas.Cmp.{ranked}
-use Rattle.std.proofs.lemmas.List.{drop_more, drop_all, get_or-map, length-map, reverse-append}
-use Rattle.std.proofs.lemmas.List.Elements.{All-head, All-tail}
+use Rattle.std.proofs.lemmas.List.{drop_more, drop_all, length-map}
 use Rattle.geo_base.specs.declared.link.Link.{Link}
 use Rattle.geo_base.specs.declared.cells.Cell.{Cell}
-use Rattle.geo_base.specs.declared.job.Piece.{Piece}
 use Rattle.geo_base.specs.declared.job.Job.{Job}
 use Rattle.geo_base.specs.declared.event.Event.{Event}
-use Rattle.geo_base.specs.Job.{Fits, IsJob, IsPieceOf, piece_cmp}
-use Rattle.stackable.specs.Partial.{IsPartial, roots, root_cmp, piece_numbers, numbers_below}
+use Rattle.geo_base.specs.Job.{Fits}
+use Rattle.stackable.specs.Partial.{roots, root_cmp, piece_numbers, numbers_below}
 use Rattle.geo_base.specs.Best.{best_of}
-use Rattle.search_core.specs.Machine.{WorkerState, State, idle_worker, first_state, worker_of, is_allowed, happens, run, is_of_root, is_done, first_left, answer_of, verdict_by, Found, Illegal, Unfinished, replayed, replayed_by}
-use Rattle.search_core.specs.Covers.{IsGood, IsTop}
-use Rattle.geo_base.proofs.Members.{pairs_head, pairs_tail}
+use Rattle.search_core.specs.Machine.{WorkerState, State, first_state, worker_of, is_allowed, happens, run, is_of_root, is_done, first_left, answer_of, verdict_by, Found, Illegal, Unfinished, replayed, replayed_by}
+use Rattle.search_core.specs.Covers.{IsGood}
 use Rattle.stackable.proofs.TreeFacts.{below_number}
 use Rattle.search_core.proofs.SearchFacts.{good_kept}
 use Rattle.search_core.specs.Hand.{Hand, as_worker}
@@ -27,7 +22,7 @@ use Rattle.search_core.specs.Merging.{merged_tops}
 use Rattle.top_list.specs.Merged.{merged}
 use Rattle.search_core.proofs.ClaimFacts.{workers_stay}
 use Rattle.search_core.proofs.OneRunFacts.{first_is_good, none_passes, best_few}
-use Rattle.search_core.proofs.ShownFacts.{allowed_shown, happens_shown, done_shown, stacks_shown}
+use Rattle.search_core.proofs.ShownFacts.{allowed_shown, happens_shown, done_shown}
 use Rattle.search_core.proofs.MergedFacts.{into_new}
 
 -- a replay has taken the first i events, and its workers are those of a good state
@@ -69,11 +64,6 @@ module _ (job : Job) (cells : List (List Cell)) (fits : Fits job cells) (events 
   playing_stops i n f hands e may p l at test is =
       let refused : is_allowed job p.state e ≡ false = sym (tested i n f hands e p) ∙ (sym test ∙ is) in
       ap (replayed_by job) (sym p.rest ∙ (step_is i n f hands e p l at ∙ cond-false (is_allowed job p.state e) (run job cells (i + 1) (drop (i + 1) events) (happens job cells p.state e)) (Err i) refused))
-
-  pub playing_stacks : (i n f : ℕ) (hands : List Hand) → IsPlaying job cells events i n f hands → All (λ h. All (IsPartial job) h.stack) hands
-  playing_stacks i n f hands p k d l =
-      let all : All (λ w. All (IsPartial job) w.stack) (staged n f hands).workers = subst (λ (s : State). All (λ w. All (IsPartial job) w.stack) s.workers) p.is_shown (stacks_shown job cells p.state p.good) in
-      subst (λ (w : WorkerState). All (IsPartial job) w.stack) (get_or-map (as_worker []) hands k d idle_worker l) (all k idle_worker (omega (arith, l, length-map hands (as_worker []))))
 
   ended : (i n f : ℕ) (hands : List Hand) → (p : IsPlaying job cells events i n f hands) → length events ≤ i → replayed job cells events ≡ verdict_by (first_left job p.state) (answer_of p.state)
   ended i n f hands p past = ap (replayed_by job) (sym p.rest ∙ ap (λ es. run job cells i es p.state) (drop_all i events past))
@@ -126,65 +116,6 @@ module _ (job : Job) (cells : List (List Cell)) (fits : Fits job cells) (events 
       ended i n f hands p past
       ∙ (ap (λ o. verdict_by o (answer_of p.state)) (none_passes (λ j. not (is_done job p.state j)) (numbers_below (length (roots job))) (λ j h. ap not (done_is i n f hands p j ∙ all j (below_number (length (roots job)) j h))))
       ∙ ap (λ xs. Found xs) (sym (is ∙ (ap (λ (s : State). merged_tops [] s.workers) (sym p.is_shown) ∙ (tops_again [] p.state.workers ∙ into_new p.state.workers)))))
-
--- there are few pieces
-module _ where
-  first_part : (o q : Ordering) → ordering_then o q ≡ Less → (o ≡ Less) ⊎ ((o ≡ Equal) × (q ≡ Less))
-  first_part Less q e = inl refl
-  first_part Equal q e = inr (refl, e)
-  first_part Greater q e = absurd (cc e)
-
-  rises : (p q : Piece) → p.from ≤ 20 → p.to ≤ 20 → q.from ≤ 20 → q.to ≤ 20 → piece_cmp p q ≡ Less → 441 * p.layer + 21 * p.from + p.to < 441 * q.layer + 21 * q.from + q.to
-  rises p q a b d c e =
-      ⊎_elim
-      (λ less. let h : p.layer < q.layer = ranked p.layer q.layer Less (sym less) in omega (arith, h, a, b))
-      (λ t. let layers : p.layer ≡ q.layer = ranked p.layer q.layer Equal (sym t.0) in
-      ⊎_elim
-      (λ less. let h : p.from < q.from = ranked p.from q.from Less (sym less) in omega (arith, h, layers, b))
-      (λ u. let froms : p.from ≡ q.from = ranked p.from q.from Equal (sym u.0) in
-      ⊎_elim
-      (λ less. let h : p.to < q.to = ranked p.to q.to Less (sym less) in omega (arith, h, layers, froms))
-      (λ v. let bad : Equal ≡ Less = v.1 in absurd (cc bad))
-      (first_part (nat_cmp p.to q.to) Equal u.1))
-      (first_part (nat_cmp p.from q.from) (ordering_then (nat_cmp p.to q.to) Equal) t.1))
-      (first_part (nat_cmp p.layer q.layer) (ordering_then (nat_cmp p.from q.from) (ordering_then (nat_cmp p.to q.to) Equal)) e)
-
-  short_list : (f : Piece → ℕ) (xs : List Piece) (low high : ℕ) → low ≤ high → AllPairs (λ p q. f p < f q) xs → All (λ p. low ≤ f p) xs → All (λ p. f p < high) xs → length xs + low ≤ high
-  short_list f [] low high fits pairs least most = omega (arith, fits)
-  short_list f (x ∷ xs) low high fits pairs least most =
-      let here : f x < high = All-head (λ p. f p < high) x xs most in
-      let bottom : low ≤ f x = All-head (λ p. low ≤ f p) x xs least in
-      let rest : length xs + (f x + 1) ≤ high = short_list f xs (f x + 1) high (omega (arith, here)) (pairs_tail (λ p q. f p < f q) x xs pairs)
-      (λ k d l. let above : f x < f (get_or xs k d) = pairs_head (λ p q. f p < f q) x xs pairs k d l in omega (arith, above)) (All-tail (λ p. f p < high) x xs most) in
-      omega (arith, rest, bottom)
-
-pub few_pieces : (job : Job) → IsJob job → length job.pieces ≤ 7056
-few_pieces job is =
-    let all : All (IsPieceOf job.tokens) job.pieces = is.pieces in
-    let short : length job.pieces + 0 ≤ 7056 =
-    short_list (λ p. 441 * p.layer + 21 * p.from + p.to) job.pieces 0 7056 (omega arith)
-    (λ i j d l m.
-    let p = all i d (omega (arith, l, m)) in
-    let q = all j d m in
-    rises (get_or job.pieces i d) (get_or job.pieces j d) (omega (arith, p.some, p.within, is.tokens)) (omega (arith, p.within, is.tokens)) (omega (arith, q.some, q.within, is.tokens)) (omega (arith, q.within, is.tokens)) (is.rising i j d l m))
-    (λ k d l. omega arith)
-    (λ k d l. let p = all k d l in omega (arith, p.layer, p.some, p.within, is.tokens)) in
-    omega (arith, short)
-
--- a test over a list turned round
-pub any_reverse : {X : Type 0} (h : X → Bool) (xs : List X) → list_any h (reverse xs) ≡ list_any h xs
-any_reverse h [] = refl
-any_reverse h (x ∷ xs) = ap (list_any h) (reverse-append (x ∷ []) xs) ∙ (any_both (reverse xs) (x ∷ []) ∙ (ap (λ b. b || (h x || false)) (any_reverse h xs) ∙ swapped (list_any h xs) (h x)))
-  where
-    any_both : (ys zs : List _) → list_any h (ys ++ zs) ≡ (list_any h ys || list_any h zs)
-    any_both [] zs = refl
-    any_both (y ∷ ys) zs = ⊎_elim (λ e. rw e refl) (λ e. rw e (any_both ys zs)) (cases_Bool (h y))
-
-    swapped : (a b : Bool) → (a || (b || false)) ≡ (b || a)
-    swapped true true = refl
-    swapped true false = refl
-    swapped false true = refl
-    swapped false false = refl
 
 any_in_hand : (g : List (List ℕ) → Bool) (hands : List Hand) → list_any (λ w. g w.stack) (map (as_worker []) hands) ≡ list_any (λ h. g h.stack) hands
 any_in_hand g [] = refl

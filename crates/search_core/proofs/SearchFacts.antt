@@ -178,9 +178,6 @@ module _ (job : Job) (cells : List (List Cell)) (fits : Fits job cells) where
         any_member (λ (v : WorkerState). list_any (is_of_root (slice_get (roots job) root.0)) v.stack) s.workers w in_state (any_member (is_of_root (slice_get (roots job) root.0)) w.stack (j ∷ rest) in_stack of_root) in
         absurd (cc (found, not_to (list_any (λ v. list_any (is_of_root (slice_get (roots job) root.0)) v.stack) s.workers) parts.1))
 
-    all_tops : List (List Link)
-    all_tops = flat_map (λ w. w.top) s.workers
-
     tops_are : (c : List Link) → Contains (flat_map (λ w. w.top) s.workers) c → IsJobContext job cells c
     tops_are c h = let m = member_of_flat_map (λ (w : WorkerState). w.top) s.workers c h in
         All-contains (IsJobContext job cells) m.0.top c (All-contains (IsGoodWorker job cells) s.workers m.0 good.workers m.1).top.contexts m.2

@@ -1,18 +1,16 @@
 -- A state without its claims takes the same steps.
-use Rattle.std.proofs.Common.{◌≡◌, ℕ, zero, suc, ◌+◌, Bool, not, is_none, ⊎_elim, List, [], ◌∷◌, ◌++◌, length, map, set, All, refl, sym, ◌∙◌, ap, arith, Option, Some, None, slice_get, max, nat_lt}
-use Rattle.std.specs.Prelude.{flat_map, ◌&&◌, ◌||◌}
+use Rattle.std.proofs.Common.{◌≡◌, ℕ, zero, suc, ◌+◌, Bool, not, is_none, ⊎_elim, List, [], ◌∷◌, length, map, set, refl, sym, ◌∙◌, ap, arith, Option, Some, None, slice_get, max, nat_lt}
+use Rattle.std.specs.Prelude.{◌&&◌, ◌||◌}
 use Rattle.std.specs.List.{list_any}
 use Rattle.std.proofs.lemmas.Bool.{cases_lt}
 use Rattle.std.proofs.lemmas.List.{get_or-map, get_or_past, length-map}
-use Rattle.std.proofs.lemmas.List.Elements.{All-map}
 use Rattle.geo_base.specs.declared.cells.Cell.{Cell}
 use Rattle.geo_base.specs.declared.job.Job.{Job}
 use Rattle.geo_base.specs.declared.event.Event.{Event}
 use Rattle.geo_base.specs.declared.event.Event.TheVariants.{Claim, Look, Cut, Open, Raise}
-use Rattle.stackable.specs.Partial.{IsPartial, roots}
+use Rattle.stackable.specs.Partial.{roots}
 use Rattle.search_core.specs.Machine.{WorkerState, State, idle_worker, worker_at, top_partial, may_cut, may_open, claimed, looked, cut, opened, opened_at, is_allowed, happens, is_of_root, is_done}
 use Rattle.top_list.specs.Merged.{floor_of}
-use Rattle.search_core.specs.Covers.{IsGood}
 use Rattle.search_core.specs.Shown.{unclaimed, shown}
 
 -- a worker of the state without claims
@@ -72,10 +70,3 @@ module _ (job : Job) (cells : List (List Cell)) where
 
   pub done_shown : (s : State) (k : ℕ) → is_done job (shown s) k ≡ is_done job s k
   done_shown s k = ap (λ b. nat_lt k s.next && not b) (any_shown (is_of_root (slice_get (roots job) k)) s.workers)
-
-  pub stacks_shown : (s : State) → IsGood job cells s → All (λ w. All (IsPartial job) w.stack) (shown s).workers
-  stacks_shown s good = All-map (λ (w : WorkerState). All (IsPartial job) w.stack) unclaimed s.workers (λ k d l. (good.workers k d l).stack)
-
-tops_shown : (ws : List WorkerState) → flat_map (λ w. w.top) (map unclaimed ws) ≡ flat_map (λ w. w.top) ws
-tops_shown [] = refl
-tops_shown (w ∷ ws) = ap (λ xs. w.top ++ xs) (tops_shown ws)

@@ -42,6 +42,8 @@ pub struct Fronts {
     list: Vec<Front>,
     // for each piece its cells made ready, once they were asked for
     ready: Vec<Option<ReadyCells>>,
+    // survivors that were let go, whose room is used again
+    spare: Vec<Survivors>,
 }
 
 impl Model for Fronts {
@@ -60,6 +62,7 @@ impl Fronts {
             alloc,
             list: Vec::new(alloc),
             ready,
+            spare: Vec::new(alloc),
         })
     }
 
@@ -119,11 +122,11 @@ impl Fronts {
     {
         let pieces = partial.pieces();
         let n = last_front(self.list.as_slice(), pieces);
-        self.list.truncate(n);
+        let_go(&mut self.list, n, &mut self.spare);
         if 0 < n {
             return Ok(self.list[n - 1].partial);
         }
-        let survivors = of_one(self.alloc, job, pieces[0], rows)?;
+        let survivors = of_one(self.alloc, job, pieces[0] as usize, rows)?;
         let first = Partial::new(pieces[0]);
         self.list.push(Front {
             partial: first,
@@ -137,7 +140,7 @@ impl Fronts {
         &mut self,
         job: &Job,
         front: &Partial,
-        piece: usize,
+        piece: u16,
         rows: &mut R,
     ) -> Result<(), Memory>
         requires own { R.pieces rows.old ≡ job.now.pieces }
@@ -153,13 +156,15 @@ impl Fronts {
         ensures same_origin { R.origin rows.new ≡ R.origin rows.old }
     {
         let n = self.list.len();
+        let room = room_again(self.alloc, &mut self.spare);
         let survivors = of_one_more(
             self.alloc,
             job,
             &self.list[n - 1].survivors,
-            piece,
+            piece as usize,
             rows,
             &mut self.ready,
+            room,
         )?;
         let mut partial = *front;
         partial.push(piece);
@@ -169,14 +174,14 @@ impl Fronts {
 }
 
 /// Whether one list of pieces begins another.
-fn begins(front: &[usize], pieces: &[usize]) -> bool
+fn begins(front: &[u16], pieces: &[u16]) -> bool
     ensures { result ≡ true → (length front.now ≤ length pieces.now) × (take (length front.now) pieces.now ≡ front.now) }
 {
     pieces.starts_with(front)
 }
 
 /// How many are kept up to the last that is of the first of these pieces.
-fn last_front(list: &[Front], pieces: &[usize]) -> usize
+fn last_front(list: &[Front], pieces: &[u16]) -> usize
     ensures within { result ≤ length list.now }
     ensures front { 0 < result → (f : SomeFront) × (slice_get list.now (result - 1) ≡ Some f) × (0 < length f.partial) × (length f.partial ≤ length pieces.now) × (take (length f.partial) pieces.now ≡ f.partial) }
 {
@@ -190,7 +195,29 @@ fn last_front(list: &[Front], pieces: &[usize]) -> usize
     0
 }
 
-/// Contexts with the best parent of one piece more.
+/// Keeps the first so many fronts, and the room of the others' survivors.
+fn let_go(list: &mut Vec<Front>, n: usize, spare: &mut Vec<Survivors>)
+    ensures { list.new.items ≡ take n list.old.items }
+{
+    while n < list.len() {
+        let Front {
+            partial: _,
+            survivors,
+        } = list.take_last();
+        // Where there is no place to keep it, the room is given back.
+        let _kept = spare.push(survivors);
+    }
+}
+
+/// Survivors that were let go, if there are any, else new ones.
+fn room_again(alloc: Global, spare: &mut Vec<Survivors>) -> Survivors {
+    match spare.pop() {
+        Some(survivors) => survivors,
+        None => Survivors::new(alloc),
+    }
+}
+
+/// Contexts with the best parent of one piece more, in the room of others.
 fn of_one_more<R: Rows>(
     alloc: Global,
     job: &Job,
@@ -198,6 +225,7 @@ fn of_one_more<R: Rows>(
     piece: usize,
     rows: &mut R,
     ready: &mut Vec<Option<ReadyCells>>,
+    room: Survivors,
 ) -> Result<Survivors, Memory>
     requires own { R.pieces rows.old ≡ job.now.pieces }
     requires within { piece < length job.now.pieces }
@@ -214,7 +242,7 @@ fn of_one_more<R: Rows>(
 {
     let held = ready[piece].take();
     let cells = ready_of(alloc, job, piece, held, rows)?;
-    let longer = coalesce_ready(alloc, found, &cells);
+    let longer = coalesce_ready(found, &cells, room);
     ready[piece] = Some(cells);
     longer
 }

@@ -1,8 +1,7 @@
 //! The search by one worker.
 
-ghost use Rattle.std.specs.Prelude.{◌≡◌, ℕ, Bool, ◌+◌, ◌-◌, ◌*◌, ◌^◌, ◌<◌, ◌≤◌, min, max, not, List, [], ◌∷◌, length, All, is_ok, IfOk, OnOk, OnErr, if◌then◌else◌};
+ghost use Rattle.std.specs.Prelude.{◌≡◌, ℕ, Bool, ◌+◌, ◌-◌, ◌*◌, ◌^◌, ◌<◌, ◌≤◌, min, max, not, List, [], ◌∷◌, length, is_ok, IfOk, OnOk, OnErr, if◌then◌else◌};
 ghost use Rattle.geo_base.specs.Job.{Fits, job_best};
-ghost use Rattle.stackable.specs.Partial.{IsPartial};
 ghost use Rattle.search_core.specs.Machine.{top_partial, is_low, looked, cut, opened, opens, cuts};
 ghost use Rattle.top_list.specs.Merged.{floor_of};
 ghost use Rattle.search_core.specs.Hand.{as_worker};
@@ -15,7 +14,7 @@ use geo_base::job::Job;
 use geo_base::refusal::Memory;
 use geo_base::rows::Rows;
 use geo_base::steps::{Steps, open as open_steps};
-use stackable::roots::roots;
+use stackable::bounded::bounded_roots;
 use std::alloc::Global;
 use std::marker::Brand;
 use std::sync::ledger::{Blank, Ledger};
@@ -43,9 +42,10 @@ fn take_turn<R: Rows, L: Ledger>(
 ) -> Result<bool, Memory>
     requires own { R.pieces rows.old ≡ job.now.pieces }
     requires fits { Fits job.now (R.cells rows.old) }
-    requires stack { All (IsPartial job.now) worker.old.stack }
+    requires job { worker.old.job ≡ job.now }
     requires some { 0 < length worker.old.stack }
     requires kept { AreKept job.now (R.cells rows.old) fronts.old }
+    ensures job { worker.new.job ≡ worker.old.job }
     ensures floor { floor.new ≡ max floor.old (floor_of worker.old.top) }
     ensures test { IfOk result (λ was_cut. was_cut ≡ is_low job.now (max worker.old.seen floor.new) (top_partial worker.old.stack)) }
     ensures worker { IfOk result (λ was_cut. (claims : List ℕ) → as_worker claims worker.new ≡ (if was_cut then cut (looked (as_worker claims worker.old) floor.new) else opened job.now (R.cells rows.old) (looked (as_worker claims worker.old) floor.new))) }
@@ -58,7 +58,7 @@ fn take_turn<R: Rows, L: Ledger>(
 {
     *floor = (*floor).max(worker.raise());
     worker.look(*floor);
-    if worker.cut(job) {
+    if worker.cut() {
         return Ok(true);
     }
     worker.open_top(job, rows, fronts, steps)?;
@@ -92,14 +92,15 @@ pub fn search_one<R: Rows, L: Ledger>(
     ensures same_cells { R.cells rows.new ≡ R.cells rows.old }
     ensures same_origin { R.origin rows.new ≡ R.origin rows.old }
 {
-    let roots = roots(alloc, job)?;
-    let mut worker = Worker::new(alloc)?;
+    let kept = bounded_roots(alloc, job)?;
+    let roots = kept.as_slice();
+    let mut worker = Worker::new(alloc, job)?;
     let mut fronts = Fronts::new(alloc, job)?;
     let mut floor = 0u64;
     let mut opens = 0u64;
     let mut cuts = 0u64;
-    for k in 0..roots.as_slice().len() {
-        worker.claim(&roots, k as u64);
+    for k in 0..roots.len() {
+        worker.claim(roots, k as u64);
         while !worker.idle() {
             let was_cut = take_turn(&mut worker, &mut floor, job, rows, &mut fronts, steps)?;
             opens = counted(opens, !was_cut);

@@ -4,12 +4,13 @@ ghost use Rattle.std.specs.Prelude.{◌≡◌, ℕ, Bool, ◌+◌, ◌-◌, ◌^
 ghost use Rattle.geo_base.specs.declared.cells.Cell.{Cell};
 ghost use Rattle.geo_base.specs.declared.job.Job.{Job as SomeJob};
 ghost use Rattle.geo_base.specs.Job.{Fits, IsJob, job_best};
-ghost use Rattle.stackable.specs.Partial.{roots as all_roots, IsPartial};
+ghost use Rattle.stackable.specs.Partial.{roots as all_roots};
+ghost use Rattle.stackable.specs.Bounded.{with_bound};
 ghost use Rattle.search_core.specs.Machine.{is_allowed, happens, first_state, worker_of, is_of_root, is_done, replayed, Found};
 ghost use Rattle.std.specs.List.{list_any};
 ghost use Rattle.search_core.specs.Merging.{merged_tops};
 ghost use Rattle.search_core.specs.Saying.{as_said, HasCause};
-ghost use Rattle.search_core.specs.Hand.{Hand, as_worker};
+ghost use Rattle.search_core.specs.Hand.{as_worker, AreOf};
 ghost use Rattle.search_core.specs.Shown.{shown};
 ghost use Rattle.search_core.specs.Staged.{staged};
 ghost use Rattle.search_core.specs.Kept.{AreKept};
@@ -21,8 +22,8 @@ use geo_base::job::Job;
 use geo_base::refusal::{Memory, Refused};
 use geo_base::rows::Rows;
 use geo_base::steps::{Steps, open as open_steps};
-use stackable::partial::{Partial, Partials};
-use stackable::roots::roots;
+use stackable::bounded::{Bounded, bounded_roots};
+use stackable::partial::Partial;
 use std::alloc::Global;
 use std::marker::Brand;
 use std::sync::ledger::{Blank, Ledger};
@@ -37,11 +38,13 @@ struct Stage {
 }
 
 /// A claim, where it may happen.
-fn claim(stage: &mut Stage, w: u8, roots: &Partials) -> bool
+fn claim(stage: &mut Stage, w: u8, roots: &[Bounded]) -> bool
     requires inside { w < vec_len stage.old.workers }
     requires room { stage.old.next < 2 ^ 64 - 1 }
+    requires roots { All (λ h. roots.now ≡ map (with_bound h.job) (all_roots h.job)) stage.old.workers.items }
     ensures test { (job : SomeJob) → result ≡ is_allowed job (staged stage.old.next stage.old.floor stage.old.workers.items) (Event.Claim w) }
-    ensures event { (job : SomeJob) (cells : List (List Cell)) → roots.now ≡ all_roots job → staged stage.new.next stage.new.floor stage.new.workers.items ≡ (if result then shown (happens job cells (staged stage.old.next stage.old.floor stage.old.workers.items) (Event.Claim w)) else staged stage.old.next stage.old.floor stage.old.workers.items) }
+    ensures event { (job : SomeJob) (cells : List (List Cell)) → AreOf job stage.old.workers.items → staged stage.new.next stage.new.floor stage.new.workers.items ≡ (if result then shown (happens job cells (staged stage.old.next stage.old.floor stage.old.workers.items) (Event.Claim w)) else staged stage.old.next stage.old.floor stage.old.workers.items) }
+    ensures jobs { (job : SomeJob) → AreOf job stage.old.workers.items → AreOf job stage.new.workers.items }
     ensures workers { vec_len stage.new.workers ≡ vec_len stage.old.workers }
     ensures next { stage.new.next ≤ stage.old.next + 1 }
 {
@@ -57,6 +60,7 @@ fn claim(stage: &mut Stage, w: u8, roots: &Partials) -> bool
 fn look(stage: &mut Stage, w: u8)
     requires inside { w < vec_len stage.old.workers }
     ensures event { (job : SomeJob) (cells : List (List Cell)) → staged stage.new.next stage.new.floor stage.new.workers.items ≡ shown (happens job cells (staged stage.old.next stage.old.floor stage.old.workers.items) (Event.Look w)) }
+    ensures jobs { (job : SomeJob) → AreOf job stage.old.workers.items → AreOf job stage.new.workers.items }
     ensures workers { vec_len stage.new.workers ≡ vec_len stage.old.workers }
     ensures next { stage.new.next ≡ stage.old.next }
 {
@@ -65,19 +69,18 @@ fn look(stage: &mut Stage, w: u8)
 }
 
 /// A cut, where it may happen.
-fn cut(stage: &mut Stage, w: u8, job: &Job) -> bool
+fn cut(stage: &mut Stage, w: u8) -> bool
     requires inside { w < vec_len stage.old.workers }
-    requires job { IsJob job.now }
-    requires stacks { All (λ h. All (IsPartial job.now) h.stack) stage.old.workers.items }
-    ensures test { result ≡ is_allowed job.now (staged stage.old.next stage.old.floor stage.old.workers.items) (Event.Cut w) }
-    ensures event { (cells : List (List Cell)) → staged stage.new.next stage.new.floor stage.new.workers.items ≡ (if result then shown (happens job.now cells (staged stage.old.next stage.old.floor stage.old.workers.items) (Event.Cut w)) else staged stage.old.next stage.old.floor stage.old.workers.items) }
+    ensures test { (job : SomeJob) → AreOf job stage.old.workers.items → result ≡ is_allowed job (staged stage.old.next stage.old.floor stage.old.workers.items) (Event.Cut w) }
+    ensures event { (job : SomeJob) (cells : List (List Cell)) → staged stage.new.next stage.new.floor stage.new.workers.items ≡ (if result then shown (happens job cells (staged stage.old.next stage.old.floor stage.old.workers.items) (Event.Cut w)) else staged stage.old.next stage.old.floor stage.old.workers.items) }
+    ensures jobs { (job : SomeJob) → AreOf job stage.old.workers.items → AreOf job stage.new.workers.items }
     ensures workers { vec_len stage.new.workers ≡ vec_len stage.old.workers }
     ensures next { stage.new.next ≡ stage.old.next }
 {
     if stage.workers[w as usize].idle() {
         return false;
     }
-    stage.workers[w as usize].cut(job)
+    stage.workers[w as usize].cut()
 }
 
 /// An open, where it may happen.
@@ -92,10 +95,11 @@ fn open<R: Rows, L: Ledger>(
     requires inside { w < vec_len stage.old.workers }
     requires own { R.pieces rows.old ≡ job.now.pieces }
     requires fits { Fits job.now (R.cells rows.old) }
-    requires stacks { All (λ h. All (IsPartial job.now) h.stack) stage.old.workers.items }
+    requires jobs { AreOf job.now stage.old.workers.items }
     requires kept { AreKept job.now (R.cells rows.old) fronts.old }
     ensures test { IfOk result (λ may. may ≡ is_allowed job.now (staged stage.old.next stage.old.floor stage.old.workers.items) (Event.Open w)) }
     ensures event { IfOk result (λ may. staged stage.new.next stage.new.floor stage.new.workers.items ≡ (if may then shown (happens job.now (R.cells rows.old) (staged stage.old.next stage.old.floor stage.old.workers.items) (Event.Open w)) else staged stage.old.next stage.old.floor stage.old.workers.items)) }
+    ensures jobs { (job : SomeJob) → AreOf job stage.old.workers.items → AreOf job stage.new.workers.items }
     ensures workers { vec_len stage.new.workers ≡ vec_len stage.old.workers }
     ensures next { stage.new.next ≡ stage.old.next }
     ensures kept { AreKept job.now (R.cells rows.old) fronts.new }
@@ -106,7 +110,7 @@ fn open<R: Rows, L: Ledger>(
     if stage.workers[w as usize].idle() {
         return Ok(false);
     }
-    if stage.workers[w as usize].low(job) {
+    if stage.workers[w as usize].low() {
         return Ok(false);
     }
     stage.workers[w as usize].open_top(job, rows, fronts, steps)?;
@@ -117,6 +121,7 @@ fn open<R: Rows, L: Ledger>(
 fn raise(stage: &mut Stage, w: u8)
     requires inside { w < vec_len stage.old.workers }
     ensures event { (job : SomeJob) (cells : List (List Cell)) → staged stage.new.next stage.new.floor stage.new.workers.items ≡ shown (happens job cells (staged stage.old.next stage.old.floor stage.old.workers.items) (Event.Raise w)) }
+    ensures jobs { (job : SomeJob) → AreOf job stage.old.workers.items → AreOf job stage.new.workers.items }
     ensures workers { vec_len stage.new.workers ≡ vec_len stage.old.workers }
     ensures next { stage.new.next ≡ stage.old.next }
 {
@@ -127,7 +132,7 @@ fn raise(stage: &mut Stage, w: u8)
 fn happen<R: Rows, L: Ledger>(
     stage: &mut Stage,
     event: Event,
-    roots: &Partials,
+    roots: &[Bounded],
     job: &Job,
     rows: &mut R,
     fronts: &mut Fronts,
@@ -135,13 +140,14 @@ fn happen<R: Rows, L: Ledger>(
 ) -> Result<bool, Memory>
     requires inside { worker_of event < vec_len stage.old.workers }
     requires room { stage.old.next < 2 ^ 64 - 1 }
-    requires roots { roots.now ≡ all_roots job.now }
+    requires roots { roots.now ≡ map (with_bound job.now) (all_roots job.now) }
     requires own { R.pieces rows.old ≡ job.now.pieces }
     requires fits { Fits job.now (R.cells rows.old) }
-    requires stacks { All (λ h. All (IsPartial job.now) h.stack) stage.old.workers.items }
+    requires jobs { AreOf job.now stage.old.workers.items }
     requires kept { AreKept job.now (R.cells rows.old) fronts.old }
     ensures test { IfOk result (λ may. may ≡ is_allowed job.now (staged stage.old.next stage.old.floor stage.old.workers.items) event) }
     ensures event { IfOk result (λ may. staged stage.new.next stage.new.floor stage.new.workers.items ≡ (if may then shown (happens job.now (R.cells rows.old) (staged stage.old.next stage.old.floor stage.old.workers.items) event) else staged stage.old.next stage.old.floor stage.old.workers.items)) }
+    ensures jobs { (job : SomeJob) → AreOf job stage.old.workers.items → AreOf job stage.new.workers.items }
     ensures workers { vec_len stage.new.workers ≡ vec_len stage.old.workers }
     ensures next { stage.new.next ≤ stage.old.next + 1 }
     ensures kept { AreKept job.now (R.cells rows.old) fronts.new }
@@ -155,7 +161,7 @@ fn happen<R: Rows, L: Ledger>(
             look(stage, w);
             Ok(true)
         }
-        Event::Cut(w) => Ok(cut(stage, w, job)),
+        Event::Cut(w) => Ok(cut(stage, w)),
         Event::Open(w) => open(stage, w, job, rows, fronts, steps),
         Event::Raise(w) => {
             raise(stage, w);
@@ -164,15 +170,17 @@ fn happen<R: Rows, L: Ledger>(
     }
 }
 
-/// Eight workers that have nothing in hand, no root claimed, and no floor.
-fn first_stage(alloc: Global) -> Result<Stage, Memory>
+/// Eight workers of a job that have nothing in hand, no root claimed, and no floor.
+fn first_stage(alloc: Global, job: &Job) -> Result<Stage, Memory>
+    requires { IsJob job.now }
     ensures state { IfOk result (λ s. staged s.next s.floor s.workers.items ≡ first_state) }
+    ensures jobs { IfOk result (λ s. AreOf job.now s.workers.items) }
     ensures eight { IfOk result (λ s. vec_len s.workers ≡ 8) }
     ensures next { IfOk result (λ s. s.next ≡ 0) }
 {
     let mut workers = Vec::new(alloc);
     for _ in 0..8u8 {
-        let worker = Worker::new(alloc)?;
+        let worker = Worker::new(alloc, job)?;
         if workers.push(worker).is_err() {
             return Err(Memory);
         }
@@ -185,13 +193,13 @@ fn first_stage(alloc: Global) -> Result<Stage, Memory>
 }
 
 /// Whether no worker has a partial of a root, and its number is below the next root's.
-fn is_done(stage: &Stage, root: &Partial, k: usize) -> bool
-    ensures { (job : SomeJob) → slice_get (all_roots job) k ≡ Some root.now → result ≡ is_done job (staged stage.now.next stage.now.floor stage.now.workers.items) k }
+fn is_done(stage: &Stage, root: &Bounded, k: usize) -> bool
+    ensures { (job : SomeJob) → slice_get (all_roots job) k ≡ Some root.now.partial → result ≡ is_done job (staged stage.now.next stage.now.floor stage.now.workers.items) k }
 {
     if k as u64 >= stage.next {
         return false;
     }
-    !is_held(stage.workers.as_slice(), root)
+    !is_held(stage.workers.as_slice(), &root.partial)
 }
 
 /// Whether a worker has a partial of a root.
@@ -245,27 +253,19 @@ fn play<R: Rows, L: Ledger>(
     ensures same_cells { R.cells rows.new ≡ R.cells rows.old }
     ensures same_origin { R.origin rows.new ≡ R.origin rows.old }
 {
-    let roots = roots(alloc, job)?;
-    let mut stage = first_stage(alloc)?;
+    let kept = bounded_roots(alloc, job)?;
+    let roots = kept.as_slice();
+    let mut stage = first_stage(alloc, job)?;
     let mut fronts = Fronts::new(alloc, job)?;
     let mut steps = open_steps::<L>(blank);
     for i in 0..events.len() {
         let event = events[i];
-        if !happen(
-            &mut stage,
-            event,
-            &roots,
-            job,
-            rows,
-            &mut fronts,
-            &mut steps,
-        )? {
+        if !happen(&mut stage, event, roots, job, rows, &mut fronts, &mut steps)? {
             return Ok(Said::Illegal(i as u64));
         }
     }
-    let list = roots.as_slice();
-    for k in 0..list.len() {
-        if !is_done(&stage, &list[k], k) {
+    for k in 0..roots.len() {
+        if !is_done(&stage, &roots[k], k) {
             return Ok(Said::Unfinished(k as u32));
         }
     }

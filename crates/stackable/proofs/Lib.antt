@@ -10,3 +10,5 @@ pub mod RoomFacts
 pub mod OpenFacts
 pub mod RootFacts
 pub mod WalkFacts
+pub mod ChildFacts
+pub mod FewPieces

@@ -1,5 +1,5 @@
 -- What bits say of the pieces that may stand below a partial.
-use Rattle.std.proofs.Common.{◌≡◌, ℕ, zero, suc, ◌+◌, ◌-◌, ◌*◌, ◌%◌, ◌^◌, ◌<◌, ◌≤◌, min, max, Bool, true, false, ◌&&◌, ◌||◌, ◌⊎◌, inl, inr, ⊎_elim, List, [], ◌∷◌, ◌++◌, length, get_or, take, refl, sym, ◌∙◌, ap, ap₂, arith, nat_eq}
+use Rattle.std.proofs.Common.{◌≡◌, ℕ, zero, suc, ◌+◌, ◌-◌, ◌*◌, ◌%◌, ◌^◌, ◌<◌, ◌≤◌, min, max, Bool, true, false, ◌&&◌, ◌||◌, ◌⊎◌, inl, inr, ⊎_elim, List, [], ◌∷◌, ◌++◌, length, get_or, take, refl, sym, ◌∙◌, ap, ap₂, subst, arith, nat_eq}
 use Rattle.std.specs.Prelude.{nat_lt, nat_le}
 use Rattle.std.specs.List.{list_all}
 use Rattle.std.specs.Int.{bit_at}
@@ -197,16 +197,16 @@ admits_more job taken layers j k is first second =
     ∙ regrouped (has_bit layers q.layer) (has_bit row q.layer) (nat_lt q.layer p.layer) (nat_eq (bit_and taken (run_bits q)) 0) (nat_le p.to q.from || nat_le q.to p.from)
 
 -- the room below one more piece
-pub room_more : (job : Job) (items : List ℕ) (i taken layers more_taken more_layers : ℕ) (p : Piece) → IsJob job → IsRoom job (take i items) taken layers
-    → i < length items → get_or items i 0 < length job.pieces → p ≡ piece_at job (get_or items i 0)
-    → more_taken ≡ bit_or taken (run_bits p) → more_layers ≡ bit_and layers (bit_and (get_or job.stacks p.layer 0) (2 ^ p.layer - 1))
-    → IsRoom job (take (i + 1) items) more_taken more_layers
-room_more job items i taken layers more_taken more_layers p is before inside first here run row =
+pub room_child : (job : Job) (p : List ℕ) (j taken layers more_taken more_layers : ℕ) (q : Piece) → IsJob job → IsRoom job p taken layers
+    → j < length job.pieces → q ≡ piece_at job j
+    → more_taken ≡ bit_or taken (run_bits q) → more_layers ≡ bit_and layers (bit_and (get_or job.stacks q.layer 0) (2 ^ q.layer - 1))
+    → IsRoom job (p ++ j ∷ []) more_taken more_layers
+room_child job p j taken layers more_taken more_layers q is before first here run row =
     λ k second.
     ap₂ (λ t l. admits t l (piece_at job k)) (run ∙ ap (λ (z : Piece). bit_or taken (run_bits z)) here) (row ∙ ap (λ (z : Piece). bit_and layers (bit_and (get_or job.stacks z.layer 0) (2 ^ z.layer - 1))) here)
-    ∙ (admits_more job taken layers (get_or items i 0) k is first second
-    ∙ (ap (λ b. b && piece_below job (get_or items i 0) k) (before k second)
-    ∙ sym (ap (λ xs. list_all (λ j. piece_below job j k) xs) (take_more items i 0 inside) ∙ all_push (λ j. piece_below job j k) (take i items) (get_or items i 0))))
+    ∙ (admits_more job taken layers j k is first second
+    ∙ (ap (λ b. b && piece_below job j k) (before k second)
+    ∙ sym (all_push (λ j. piece_below job j k) p j)))
   where
     and_true_right : (a b : Bool) → (a && (b && true)) ≡ (a && b)
     and_true_right a true = refl
@@ -214,3 +214,12 @@ room_more job items i taken layers more_taken more_layers p is before inside fir
 
     all_push : (h : ℕ → Bool) (xs : List ℕ) (x : ℕ) → list_all h (xs ++ x ∷ []) ≡ (list_all h xs && h x)
     all_push h xs x = list_all-append h xs (x ∷ []) ∙ and_true_right (list_all h xs) (h x)
+
+-- the same along a list
+pub room_more : (job : Job) (items : List ℕ) (i taken layers more_taken more_layers : ℕ) (p : Piece) → IsJob job → IsRoom job (take i items) taken layers
+    → i < length items → get_or items i 0 < length job.pieces → p ≡ piece_at job (get_or items i 0)
+    → more_taken ≡ bit_or taken (run_bits p) → more_layers ≡ bit_and layers (bit_and (get_or job.stacks p.layer 0) (2 ^ p.layer - 1))
+    → IsRoom job (take (i + 1) items) more_taken more_layers
+room_more job items i taken layers more_taken more_layers p is before inside first here run row =
+    subst (λ xs. IsRoom job xs more_taken more_layers) (sym (take_more items i 0 inside))
+    (room_child job (take i items) (get_or items i 0) taken layers more_taken more_layers p is before first here run row)

@@ -16,6 +16,8 @@ use Rattle.geo_base.specs.Job.{IsJob}
 use Rattle.geo_base.proofs.Members.{member_here, member_there, member_of_map, all_from_members}
 use Rattle.geo_base.proofs.BestFacts.{cases_of, after_from_greater, best_of_is_best, best_is_one}
 use Rattle.stackable.specs.declared.roots.Root.{Root}
+use Rattle.stackable.specs.declared.bounded.Bounded.{Bounded}
+use Rattle.stackable.specs.Bounded.{with_bound}
 use Rattle.stackable.specs.Partial.{numbers_below, piece_numbers, root_cmp, roots}
 use Rattle.stackable.specs.RootOrder.{root_of, by_bound}
 use Rattle.stackable.proofs.Numbers.{any_push}
@@ -113,3 +115,14 @@ module _ (job : Job) (is : IsJob job) (xs ys : List Root) (made : xs ≡ map (ro
       two_maps : (zs : List Root) → map (λ (r : Root). r.piece ∷ []) zs ≡ map (λ k. k ∷ []) (map (λ (r : Root). r.piece) zs)
       two_maps [] = refl
       two_maps (z ∷ zs) = ap (λ rest. (z.piece ∷ []) ∷ rest) (two_maps zs)
+
+  -- and have their bounds
+  pub sorted_bounds : map (λ (r : Root). record { partial = r.piece ∷ []; bound = r.bound }) ys ≡ map (with_bound job) (roots job)
+  sorted_bounds = each ys bounded ∙ ap (map (with_bound job)) sorted_roots
+    where
+      each : (zs : List Root) → ((r : Root) → Contains zs r → r ≡ root_of job r.piece) → map (λ (r : Root). record { partial = r.piece ∷ []; bound = r.bound }) zs ≡ map (with_bound job) (map (λ (r : Root). r.piece ∷ []) zs)
+      each [] h = refl
+      each (z ∷ zs) h =
+          ap₂ (λ (b : Bounded) (rest : List Bounded). b ∷ rest)
+          (ap (λ n. record { partial = z.piece ∷ []; bound = n }) (ap (λ (r : Root). r.bound) (h z (member_here z zs))))
+          (each zs (λ r m. h r (member_there z r zs m)))

@@ -1,5 +1,5 @@
 -- Roots and children are partials, and each piece is a root.
-use Rattle.std.proofs.Common.{◌≡◌, ℕ, zero, suc, ◌+◌, ◌<◌, ◌≤◌, Bool, true, false, ◌&&◌, ◌||◌, ⊎_elim, List, [], ◌∷◌, ◌++◌, length, map, All, refl, sym, ap, subst, arith, length-append, Some, slice_get, Ordering, Less, Equal, Greater, nat_cmp}
+use Rattle.std.proofs.Common.{◌≡◌, ℕ, zero, suc, ◌+◌, ◌<◌, ◌≤◌, Bool, true, false, ◌&&◌, ◌||◌, ⊎_elim, List, [], ◌∷◌, ◌++◌, length, get_or, map, All, refl, sym, ap, subst, arith, length-append, Some, slice_get, Ordering, Less, Equal, Greater, nat_cmp}
 use Rattle.std.specs.Prelude.{AllPairs, Contains, nat_eq, nat_lt, nat_le}
 use Rattle.std.specs.List.{list_all}
 use Rattle.std.specs.Cmp.{IsTotalOrder}
@@ -12,7 +12,7 @@ use Rattle.std.proofs.lemmas.List.Quantifiers.{all_pairs_push}
 use Rattle.geo_base.specs.declared.job.Job.{Job}
 use Rattle.geo_base.specs.Best.{IsMet, IsBest, best_of}
 use Rattle.geo_base.specs.Job.{job_compat, IsPieceOf, IsJob}
-use Rattle.stackable.specs.Partial.{no_piece, piece_at, numbers_below, piece_numbers, piece_below, candidates, bound, root_cmp, roots, IsPartial}
+use Rattle.stackable.specs.Partial.{no_piece, piece_at, numbers_below, piece_numbers, piece_below, candidates, children, bound, root_cmp, roots, IsPartial}
 use Rattle.geo_base.proofs.Members.{member_here, member_there, member_cases, no_member, member_of_filter, all_from_members, pairs_head, pairs_tail}
 use Rattle.geo_base.proofs.BestFacts.{best_of_is_best, not_before_itself}
 use Rattle.geo_base.proofs.SettledFacts.{no_more_targets}
@@ -74,6 +74,17 @@ module _ (job : Job) (is : IsJob job) where
       let stacked : AllPairs (λ i j. piece_below job i j ≡ true) (p ++ k ∷ []) = all_pairs_push (λ i j. piece_below job i j ≡ true) p k partial.stacked (λ i d l. below i d l) in
       let chosen : All (Contains (piece_numbers job)) (p ++ k ∷ []) = All-push (Contains (piece_numbers job)) p k partial.chosen found.0 in
       record { some = omega (arith, length-append p (k ∷ [])); few = short_enough (p ++ k ∷ []) stacked chosen; stacked = stacked; chosen = chosen }
+
+  -- each child is a partial
+  pub child_at : (p : List ℕ) → IsPartial job p → (ps : List (List ℕ)) → ps ≡ children job p → (i : ℕ) (d : List ℕ) → i < length ps → IsPartial job (get_or ps i d)
+  child_at p partial ps all i d inside = at (candidates job p) (λ k h. child_is_partial p k partial h) ps all i inside
+    where
+      at : (ks : List ℕ) → ((k : ℕ) → Contains ks k → IsPartial job (p ++ k ∷ [])) → (qs : List (List ℕ)) → qs ≡ map (λ k. p ++ k ∷ []) ks → (i : ℕ) → i < length qs → IsPartial job (get_or qs i d)
+      at [] h qs e i l = absurd (omega (arith, l, ap (length {A = List ℕ}) e))
+      at (k ∷ ks) h qs e zero l = subst (λ rs. IsPartial job (get_or rs 0 d)) (sym e) (h k (member_here k ks))
+      at (k ∷ ks) h qs e (suc i) l =
+          subst (λ rs. IsPartial job (get_or rs (suc i) d)) (sym e)
+          (at ks (λ j m. h j (member_there k j ks m)) (map (λ j. p ++ j ∷ []) ks) refl i (omega (arith, l, ap (length {A = List ℕ}) e)))
 
   pub one_is_partial : (k : ℕ) → Contains (piece_numbers job) k → IsPartial job (k ∷ [])
   one_is_partial k h = record { some = omega arith; few = omega arith; stacked = λ i j d l m. absurd (omega (arith, l, m)); chosen = All-cons (Contains (piece_numbers job)) k [] h (λ i d l. absurd (omega (arith, l))) }

@@ -2,8 +2,9 @@
 //! and how the survivors of a partial grow.
 #![tactic(auto)]
 
+pub mod bounded;
 pub mod laws;
 pub mod partial;
 mod room;
-pub mod roots;
+mod roots;
 pub mod tree;

@@ -48,7 +48,7 @@ impl Room {
     }
 
     /// What is left below one more piece.
-    fn below(&self, p: &Piece, stacks: u16) -> Room
+    pub fn below(&self, p: &Piece, stacks: u16) -> Room
         requires { IsPieceOf 20 p.now }
         ensures taken { result.taken ≡ bit_or self.now.taken (run_bits p.now) }
         ensures layers { result.layers ≡ bit_and self.now.layers (bit_and stacks (2 ^ p.now.layer - 1)) }
@@ -67,7 +67,7 @@ impl Room {
     {
         let mut room = Room::whole();
         for k in p.pieces() {
-            let piece = piece(job, *k);
+            let piece = piece(job, *k as usize);
             room = room.below(&piece, job.stacks[piece.layer as usize]);
         }
         room

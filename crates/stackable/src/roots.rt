@@ -1,12 +1,13 @@
-//! The roots of a job's tree of partials.
+//! The order of the roots of a job's tree of partials.
 
 ghost use Rattle.std.specs.Prelude.{◌≡◌, [], ◌∷◌, map, IfOk};
 ghost use Rattle.std.specs.List.Sorted.{IsPermutation, IsSorted};
 ghost use Rattle.geo_base.specs.Job.{IsJob};
 ghost use Rattle.stackable.specs.Partial.{piece_numbers, roots};
+ghost use Rattle.stackable.specs.Bounded.{with_bound};
 ghost use Rattle.stackable.specs.RootOrder.{root_of, by_bound};
 
-use crate::partial::{Partial, Partials};
+use crate::partial::Partial;
 use crate::tree::bound;
 use geo_base::job::Job;
 use geo_base::refusal::Memory;
@@ -15,19 +16,22 @@ use std::cmp::Ordering;
 
 /// A piece, with the bound of the partial that it alone is.
 #[derive(Clone, Copy)]
-struct Root {
-    bound: u64,
-    piece: usize,
+pub struct Root {
+    /// The bound.
+    pub bound: u64,
+    /// The number of the piece.
+    pub piece: u16,
 }
 
-/// Each piece as a partial of its own, by greater bound, then by smaller piece number.
-pub fn roots(alloc: Global, job: &Job) -> Result<Partials, Memory>
+/// The pieces with their bounds, in the order of the roots.
+pub fn ordered_roots(alloc: Global, job: &Job) -> Result<Vec<Root>, Memory>
     requires { IsJob job.now }
-    ensures { IfOk result (λ r. r ≡ roots job.now) }
+    ensures pieces { IfOk result (λ r. map (λ r. r.piece ∷ []) r.items ≡ roots job.now) }
+    ensures bounds { IfOk result (λ r. map (λ r. record { partial = r.piece ∷ []; bound = r.bound }) r.items ≡ map (with_bound job.now) (roots job.now)) }
 {
     let mut order = bounds_of(alloc, job)?;
     put_in_order(&mut order);
-    as_partials(alloc, order.as_slice())
+    Ok(order)
 }
 
 /// Each piece with its bound, in the order of the pieces.
@@ -38,8 +42,9 @@ fn bounds_of(alloc: Global, job: &Job) -> Result<Vec<Root>, Memory>
     let pieces = job.pieces.as_slice().len();
     let mut list = Vec::with_capacity(alloc, pieces)?;
     for k in 0..pieces {
-        let bound = bound(job, &Partial::new(k));
-        list.push(Root { bound, piece: k })?;
+        let piece = k as u16;
+        let bound = bound(job, &Partial::new(piece));
+        list.push(Root { bound, piece })?;
     }
     Ok(list)
 }
@@ -57,15 +62,4 @@ fn put_in_order(list: &mut Vec<Root>)
     ensures sorted { IsSorted by_bound list.new.items }
 {
     list.sort_unstable_by(|a, b| compare(a, b));
-}
-
-/// Each root as a partial.
-fn as_partials(alloc: Global, list: &[Root]) -> Result<Partials, Memory>
-    ensures { IfOk result (λ p. p ≡ map (λ r. r.piece ∷ []) list.now) }
-{
-    let mut partials = Partials::with_room(alloc, list.len())?;
-    for root in list {
-        partials.push(Partial::new(root.piece))?;
-    }
-    Ok(partials)
 }

@@ -20,8 +20,8 @@ best_contexts-requires-clause-rising c =
 pub returns-clause-answer : goal.returns-clause-answer
 returns-clause-answer c =
     let all : c.deref-3.result.now ≡ links c.args.head.now c.args.table.now c.args.query.now = c.deref-3.ensures.value ∙ c.in_ok-links.ensures in
-    answered c.args.head.now c.args.table.now c.args.limit c.args.query.now c.answer.result
+    answered c.args.head.now c.args.table.now c.args.limit c.args.query.now c.into_answer.result
     (omega (arith, c.count_of-total.ensures, c.if-total-limit.false))
     (search (rules, arith))
-    (c.answer.ensures.contexts ∙ (c.in_ok-top.ensures ∙ (ap (best (compat_of c.stacks-stacks.result)) all
+    (c.into_answer.ensures.contexts ∙ (c.in_ok-top.ensures ∙ (ap (best (compat_of c.stacks-stacks.result)) all
     ∙ best_by_bits c.args.head.now c.args.table.now c.args.query.now c.stacks-stacks.result c.len-layers.ensures.are.few c.stacks-stacks.ensures)))

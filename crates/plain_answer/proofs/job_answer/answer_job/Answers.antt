@@ -38,4 +38,4 @@ returns-clause-answer g c =
     let cells = g.R.Rows.cells c.args.rows.now in
     let made : c.loop-number.links.items ≡ links_of c.args.job.now.pieces cells = all_made c.args.job.now.pieces cells (links_of c.args.job.now.pieces cells) c.loop-number.links.items c.loop-number.number c.loop-number.invariant.links (search (rules, arith)) in
     let found : c.in_ok-top.top ≡ job_best c.args.job.now cells = c.in_ok-top.ensures ∙ ap (best (job_compat c.args.job.now)) (c.deref-2.ensures.value ∙ made) in
-    answer_of_parts c.answer.result c.args.job.now.tokens (job_best c.args.job.now cells) c.answer.ensures.tokens (c.answer.ensures.contexts ∙ found)
+    answer_of_parts c.into_answer.result c.args.job.now.tokens (job_best c.args.job.now cells) c.into_answer.ensures.tokens (c.into_answer.ensures.contexts ∙ found)

@@ -1,10 +1,17 @@
-use Rattle.std.proofs.Common.{rules, ◌≡◌, ◌<◌, ◌∙◌, [], ◌∷◌, ◌++◌, ap, subst, length, List}
+use Rattle.std.proofs.Common.{rules, ◌≡◌, ◌<◌, ◌∙◌, [], ◌∷◌, ◌++◌, ap, arith, subst, length, List}
 use Rattle.geo_base.specs.declared.job.Piece.{Piece}
 use Rattle.stackable.specs.declared.roots.Root.{Root}
 use Rattle.stackable.specs.Partial.{bound}
 use Rattle.stackable.specs.RootOrder.{root_of}
+use Rattle.stackable.proofs.FewPieces.{few_pieces}
 use Rattle.stackable.proofs.Numbers.{lone_partial, map_more_number}
 use Rattle.stackable.proofs.roots.bounds_of.Goals as goal
+
+pub overflow_cast-piece : goal.overflow_cast-piece
+overflow_cast-piece c =
+    let inside : c.loop-k.k < length c.args.job.now.pieces = subst (λ (xs : List Piece). c.loop-k.k < length xs) c.as_slice-pieces.ensures c.loop-k-test.true in
+    let small : c.loop-k.k < 65536 = omega (arith, inside, few_pieces c.args.job.now c.requires) in
+    omega (arith, small)
 
 pub bound-bound-requires-clause-partial : goal.bound-bound-requires-clause-partial
 bound-bound-requires-clause-partial c = rw c.new.ensures (lone_partial c.args.job.now c.loop-k.k (subst (λ (xs : List Piece). c.loop-k.k < length xs) c.as_slice-pieces.ensures c.loop-k-test.true))

@@ -10,7 +10,7 @@ loop-q-preserved c =
     let i = c.loop-q.q-index in
     let long : length (take last pieces) ≡ last = front_long job pieces last i c.as_slice.ensures c.last_piece.ensures.inside in
     let inside : i < length job.pieces = omega (arith, c.loop-q-test.true, long, c.last_piece.ensures.inside) in
-    open_more job c.args.p.now c.of-room.result.taken c.of-room.result.layers c.loop-q.tokens _ i c.tokens_of-tokens.result _ c.requires.job c.of-room.ensures inside
+    open_more job c.args.p.now c.args.room.now.taken c.args.room.now.layers c.loop-q.tokens _ i c.tokens_of-tokens.result _ c.requires.job c.requires.room inside
     (at_front job pieces last i c.as_slice.ensures c.last_piece.ensures.inside _ c.loop-q-test.true) c.tokens_of-tokens.ensures refl c.loop-q.invariant
 
 pub returns-clause-bits : goal.returns-clause-bits

@@ -1,39 +1,66 @@
-use Rattle.std.proofs.Common.{◌≡◌, ◌-◌, ◌++◌, length, List, ℕ, sym, subst, ◌∙◌, ap, arith, get_or, take, reverse}
-use Rattle.std.specs.Prelude.{Contains}
-use Rattle.geo_base.specs.declared.link.Link.{Link}
-use Rattle.geo_base.specs.Job.{IsJobContext}
+use Rattle.std.proofs.Common.{◌≡◌, ◌++◌, [], ◌∷◌, List, length, All, sym, subst, ◌∙◌, ap, arith, map, reverse}
+use Rattle.std.proofs.lemmas.List.Elements.{All-append}
+use Rattle.geo_base.specs.declared.job.Job.{Job}
+use Rattle.stackable.specs.declared.bounded.Bounded.{Bounded}
+use Rattle.stackable.specs.Bounded.{IsBounded, with_bound}
 use Rattle.stackable.specs.Partial.{IsPartial, survivors}
-use Rattle.search_core.proofs.HandFacts.{in_hand, opens_top, top_is_partial, stack_long, open_some, survivors_are, popped_is}
-use Rattle.search_core.proofs.KeptFacts.{found_is}
+use Rattle.search_core.specs.Machine.{children_of}
+use Rattle.search_core.proofs.HandFacts.{in_hand, own_job, stack_some, open_some, last_of, front_of, kids_are_partials, kids_are_bounded, opens_top_of, put_back}
 use Rattle.search_core.proofs.worker.Worker.open_top.Goals as goal
 
-pub reach-requires-clause-partial : goal.reach-requires-clause-partial
-reach-requires-clause-partial g c =
-    let view : in_hand c.self.inside.stack.items c.self.inside.seen c.self.inside.top ≡ c.args.self.now = c.self.view_is in
-    let long = stack_long c.self.inside.stack.items c.self.inside.seen c.self.inside.top c.args.self.now view (open_some c.args.job.now c.args.self.now c.requires.may) in
-    let n : c.len.result - 1 ≡ length c.self.inside.stack.items - 1 = omega (arith, c.len.ensures, c.self.inside.stack.ok) in
-    subst (IsPartial c.args.job.now) (ap (λ (k : ℕ). get_or c.self.inside.stack.items k c.index.result.now) (sym n) ∙ sym c.index.ensures)
-    (top_is_partial c.self.inside.stack.items c.self.inside.seen c.self.inside.top c.args.self.now view c.args.job.now (length c.self.inside.stack.items - 1) c.index.result.now long c.requires.stack)
+pub take_last-top-requires : goal.take_last-top-requires
+take_last-top-requires g c =
+    let view : in_hand c.self.inside.job.value c.self.inside.stack.items c.self.inside.seen c.self.inside.top ≡ c.args.self.now = c.self.view_is in
+    omega (arith, stack_some c.self.inside.job.value c.self.inside.stack.items c.self.inside.seen c.self.inside.top c.args.self.now view (open_some c.args.job.now c.args.self.now c.requires.may), c.self.inside.stack.ok)
 
-pub children_where-requires-clause-partial : goal.children_where-requires-clause-partial
-children_where-requires-clause-partial g c =
-    let view : in_hand c.self.inside.stack.items c.self.inside.seen c.self.inside.top ≡ c.args.self.now = c.self.view_is in
-    let long = stack_long c.self.inside.stack.items c.self.inside.seen c.self.inside.top c.args.self.now view (open_some c.args.job.now c.args.self.now c.requires.may) in
-    let n : c.len.result - 1 ≡ length c.self.inside.stack.items - 1 = omega (arith, c.len.ensures, c.self.inside.stack.ok) in
-    subst (IsPartial c.args.job.now) (ap (λ (k : ℕ). get_or c.self.inside.stack.items k c.index.result.now) (sym n) ∙ sym c.index.ensures)
-    (top_is_partial c.self.inside.stack.items c.self.inside.seen c.self.inside.top c.args.self.now view c.args.job.now (length c.self.inside.stack.items - 1) c.index.result.now long c.requires.stack)
+pub open_partial-requires-clause-partial : goal.open_partial-requires-clause-partial
+open_partial-requires-clause-partial g c =
+    let view : in_hand c.self.inside.job.value c.self.inside.stack.items c.self.inside.seen c.self.inside.top ≡ c.args.self.now = c.self.view_is in
+    let own : c.self.inside.job.value ≡ c.args.job.now = own_job c.self.inside.job.value c.self.inside.stack.items c.self.inside.seen c.self.inside.top c.args.self.now view ∙ c.requires.job in
+    let is : IsBounded c.self.inside.job.value c.take_last-top.result = last_of (IsBounded c.self.inside.job.value) c.take_last-top.new.self.items c.take_last-top.result (subst (All (IsBounded c.self.inside.job.value)) c.take_last-top.ensures.items c.self.invariant.2) in
+    subst (λ (j : Job). IsPartial j c.take_last-top.result.partial) own is.partial
 
-pub returns-clause-opened : goal.returns-clause-opened
-returns-clause-opened g c =
+pub invariant_of-self : goal.invariant_of-self
+invariant_of-self g c =
+    let view : in_hand c.self.inside.job.value c.self.inside.stack.items c.self.inside.seen c.self.inside.top ≡ c.args.self.now = c.self.view_is in
     let job = c.args.job.now in
     let cells = g.R.Rows.cells c.args.rows.now in
-    let items = c.self.inside.stack.items in
-    let view : in_hand c.self.inside.stack.items c.self.inside.seen c.self.inside.top ≡ c.args.self.now = c.self.view_is in
-    let long = stack_long c.self.inside.stack.items c.self.inside.seen c.self.inside.top c.args.self.now view (open_some c.args.job.now c.args.self.now c.requires.may) in
-    let n : c.len.result - 1 ≡ length c.self.inside.stack.items - 1 = omega (arith, c.len.ensures, c.self.inside.stack.ok) in
-    let at : c.index.result.now ≡ get_or items (length items - 1) c.index.result.now = c.index.ensures ∙ ap (λ (k : ℕ). get_or items k c.index.result.now) n in
-    let found : c.found-found.result.now ≡ survivors job cells c.index.result.now = found_is job cells c.reach.new.self c.index.result.now c.found-found.result.now c.reach.ensures.kept c.in_ok-reach.ensures.reached c.found-found.ensures in
-    let popped : c.pop.new.self.items ≡ take (length items - 1) items = popped_is items c.reserve.new.self.items c.pop.new.self.items _ c.reserve.ensures.items c.pop.ensures.rest (omega (arith, c.reserve.ensures.len, c.self.inside.stack.ok)) in
-    let pushed : reverse c.push_all.new.stack.items ≡ c.in_ok-below.below ++ reverse c.pop.new.self.items = subst (λ (ps : List (List ℕ)). reverse c.push_all.new.stack.items ≡ ps ++ reverse c.pop.new.self.items) c.as_slice-2.ensures c.push_all.ensures.items in
-    opens_top items c.self.inside.seen c.self.inside.top c.args.self.now view job cells (length items - 1) c.index.result.now c.index.result.now c.found-found.result.now c.in_ok-below.below c.push_all.new.stack.items c.pop.new.self.items c.offer_all.new.self
-    long at found c.in_ok-below.ensures popped pushed c.offer_all.ensures
+    let own : c.self.inside.job.value ≡ c.args.job.now = own_job c.self.inside.job.value c.self.inside.stack.items c.self.inside.seen c.self.inside.top c.args.self.now view ∙ c.requires.job in
+    let all : All (IsBounded c.args.job.now) (c.take_last-top.new.self.items ++ c.take_last-top.result ∷ []) = subst (λ (j : Job). All (IsBounded j) (c.take_last-top.new.self.items ++ c.take_last-top.result ∷ [])) own (subst (All (IsBounded c.self.inside.job.value)) c.take_last-top.ensures.items c.self.invariant.2) in
+    let is : IsBounded c.args.job.now c.take_last-top.result = last_of (IsBounded c.args.job.now) c.take_last-top.new.self.items c.take_last-top.result all in
+    let found = survivors c.args.job.now (g.R.Rows.cells c.args.rows.now) c.take_last-top.result.partial in
+    let kids = children_of job found c.take_last-top.result.partial in (
+      omega (arith, c.self.invariant.0, c.take_last-top.ensures.capacity, c.in-Ok.ensures.capacity),
+      c.self.invariant.1,
+      subst (λ (j : Job). All (IsBounded j) c.open_partial.new.stack.items) (sym own)
+          (subst (All (IsBounded c.args.job.now)) (sym c.in-Ok.ensures.pushed)
+          (All-append (IsBounded c.args.job.now) c.take_last-top.new.self.items (reverse (map (with_bound job) kids))
+          (front_of (IsBounded c.args.job.now) c.take_last-top.new.self.items (c.take_last-top.result ∷ []) all)
+          (kids_are_bounded job kids (kids_are_partials job c.requires.fits.is_job found c.take_last-top.result.partial is.partial)))),
+    )
+
+pub returns-in-Ok-clause-opened : goal.returns-in-Ok-clause-opened
+returns-in-Ok-clause-opened g c =
+    let view : in_hand c.self.inside.job.value c.self.inside.stack.items c.self.inside.seen c.self.inside.top ≡ c.args.self.now = c.self.view_is in
+    let own : c.self.inside.job.value ≡ c.args.job.now = own_job c.self.inside.job.value c.self.inside.stack.items c.self.inside.seen c.self.inside.top c.args.self.now view ∙ c.requires.job in
+    opens_top_of c.self.inside.job.value c.self.inside.stack.items c.self.inside.seen c.self.inside.top c.args.self.now view c.args.job.now own (g.R.Rows.cells c.args.rows.now) c.take_last-top.new.self.items c.open_partial.new.stack.items c.take_last-top.result c.open_partial.new.top
+    c.take_last-top.ensures.items c.in-Ok.ensures.pushed c.in-Ok.ensures.offered
+
+pub push_reserved-requires : goal.push_reserved-requires
+push_reserved-requires g c =
+    let same : length c.open_partial.new.stack.items ≡ length c.take_last-top.new.self.items = ap (λ (bs : List Bounded). length bs) c.in-Err.ensures.same_stack in
+    omega (arith, same, c.open_partial.new.stack.ok, c.take_last-top.new.self.ok, c.take_last-top.ensures.len, c.take_last-top.ensures.capacity, c.in-Err.ensures.capacity, c.self.inside.stack.ok)
+
+pub invariant_of-self-in-Err : goal.invariant_of-self-in-Err
+invariant_of-self-in-Err g c =
+    let again : c.push_reserved.new.self.items ≡ c.self.inside.stack.items = c.push_reserved.ensures.items ∙ (ap (λ (bs : List Bounded). bs ++ c.take_last-top.result ∷ []) c.in-Err.ensures.same_stack ∙ sym c.take_last-top.ensures.items) in (
+      omega (arith, c.self.invariant.0, c.take_last-top.ensures.capacity, c.in-Err.ensures.capacity, c.push_reserved.ensures.capacity),
+      c.self.invariant.1,
+      subst (All (IsBounded c.self.inside.job.value)) (sym again) c.self.invariant.2,
+    )
+
+pub returns-in-Err-clause-refused : goal.returns-in-Err-clause-refused
+returns-in-Err-clause-refused g c =
+    let view : in_hand c.self.inside.job.value c.self.inside.stack.items c.self.inside.seen c.self.inside.top ≡ c.args.self.now = c.self.view_is in
+    put_back c.self.inside.job.value c.self.inside.stack.items c.self.inside.seen c.self.inside.top c.args.self.now view c.take_last-top.new.self.items c.push_reserved.new.self.items c.take_last-top.result c.open_partial.new.top
+    c.take_last-top.ensures.items (c.push_reserved.ensures.items ∙ ap (λ (bs : List Bounded). bs ++ c.take_last-top.result ∷ []) c.in-Err.ensures.same_stack) c.in-Err.ensures.same_top

@@ -1,6 +1,6 @@
 use Rattle.std.proofs.Common.{sym, subst, length, ◌<◌, get_or, List, ℕ}
 use Rattle.stackable.proofs.Numbers.{piece_inside}
-use Rattle.stackable.proofs.tree.bound.Goals as goal
+use Rattle.stackable.proofs.tree.bound_in.Goals as goal
 
 pub piece-root-requires : goal.piece-root-requires
 piece-root-requires c =
