@@ -1,8 +1,8 @@
 -- What the lines of a session's body keep.
 use Rattle.std.proofs.Common.{◌≡◌, ◌==◌, ◌&&◌, ℕ, ◌+◌, ◌<◌, Bool, true, false, nat_lt, nat_le, not, List, [], ◌∷◌, length, is_some, inl, inr, Option, None, Some, Result, Ok, Err, refl, sym, ap, subst, ltb-true, arith}
 use Rattle.std.proofs.lemmas.Bool.{leb-true}
-use Rattle.std.specs.Prelude.{⊤, codes, bytes_eq, count_by, ok_or, if◌then◌else◌, slice_get, take, drop, IfSome, IsSome}
-use Rattle.std.specs.List.{list_all, list_any}
+use Rattle.std.specs.Prelude.{⊤, codes, bytes_eq, ok_or, if◌then◌else◌, slice_get, take, drop, IfSome, IsSome}
+use Rattle.std.specs.List.{list_all, list_any, before_first, after_first}
 use Rattle.std.specs.Str.{is_utf8}
 use Rattle.std.proofs.lemmas.Bool.{and_parts, not-true}
 use Rattle.std.proofs.lemmas.Option.{slice_get_cases}
@@ -15,11 +15,12 @@ use Rattle.geo_layer.specs.LayerText.{layer_of}
 use Rattle.feature_reader.specs.Feature.{feature_of}
 use Rattle.feature_reader.specs.declared.feature.FeatureFault.{FeatureFault}
 use Rattle.feature_reader.proofs.Zooms.{AtZoom, bind_ok, wanted_ok, feature_zoom}
+use Rattle.session_text.specs.Events.{events_of}
 use Rattle.session_text.specs.Lines.{longest, line_text, is_skipped, next_field}
-use Rattle.session_text.specs.Session.{SessionView, one_number, two_numbers, of_layer, of_feature, title_line, langs_line, layer_line, put_line, drop_line, load_line, limit_line, is_asking, ask_line, bare_line, word_of, line_of_word, body_line, head_line, already, staged_line, line_at, after_item, step_of, IsLineOf}
+use Rattle.session_text.specs.Session.{SessionView, one_number, two_numbers, of_layer, of_feature, title_line, langs_line, layer_line, put_line, drop_line, load_line, limit_line, room_for_ask, ask_line, explain_line, replay_line, bare_line, word_of, line_of_word, body_line, head_line, already, staged_line, line_at, after_item, step_of, IsLineOf}
 use Rattle.session_text.specs.Reading.{reading_after, reading_from, after_step}
 use Rattle.session_text.specs.declared.body.BodyLine.{BodyLine}
-use Rattle.session_text.specs.declared.body.BodyLine.TheVariants.{Put, Drop, Load, Limit, Publish, Ask}
+use Rattle.session_text.specs.declared.body.BodyLine.TheVariants.{Put, Drop, Load, Limit, Publish, Ask, Explain, Replay}
 use Rattle.session_text.specs.declared.item.Item.{Item}
 use Rattle.session_text.specs.declared.item.Item.TheVariants.{Skipped, Title, Langs, Layer, Body, Join, End}
 use Rattle.session_text.specs.declared.item.Word.{Word}
@@ -29,6 +30,7 @@ use Rattle.session_text.specs.declared.session.Stage.TheVariants as at
 use Rattle.session_text.specs.declared.session.Step.TheVariants.{Ready, Last}
 use Rattle.session_text.specs.declared.why.Why.{Why}
 use Rattle.session_text.specs.declared.why.Why.TheVariants as why
+use Rattle.session_text.proofs.EventFacts.{of_eight}
 
 -- ---- steps that gave something
 
@@ -107,9 +109,25 @@ ask_fits : (s : SessionView) (text : List ℕ) (item : Item) → ask_line s.roun
 ask_fits s text item e =
     let (lane, is_lane, e₁) = bind_ok (ok_or (number_of (first_word (next_field text))) why.Form) _ item e in
     let (u, is_u, e₂) = bind_ok (wanted (nat_lt lane 8) why.Number) _ item e₁ in
-    let (v, is_v, e₃) = bind_ok (wanted (nat_lt (count_by is_asking s.round) 4096) why.Asks) _ item e₂ in
+    let (v, is_v, e₃) = bind_ok (room_for_ask s.round) _ item e₂ in
     let same : Body (Ask lane (after_word (next_field text))) ≡ item = cc e₃ in
     subst (OfBody s) same (ltb-true lane 8 (wanted_ok (nat_lt lane 8) why.Number u is_u), tt)
+
+explain_fits : (s : SessionView) (text : List ℕ) (item : Item) → explain_line s.round text ≡ Ok item → OfBody s item
+explain_fits s text item e =
+    let (v, is_v, e₁) = bind_ok (room_for_ask s.round) _ item e in
+    let same : Body (Explain (after_word text)) ≡ item = cc e₁ in
+    subst (OfBody s) same (tt, tt)
+
+replay_fits : (s : SessionView) (text : List ℕ) (item : Item) → replay_line s.round text ≡ Ok item → OfBody s item
+replay_fits s text item e =
+    let fields = after_word text in
+    let words = words_of (before_first (λ b. b == 59) fields) in
+    let (u, is_u, e₁) = bind_ok (wanted (list_any (λ b. b == 59) fields) why.Form) _ item e in
+    let (events, are, e₂) = bind_ok (ok_or (events_of words) why.Form) _ item e₁ in
+    let (v, is_v, e₃) = bind_ok (room_for_ask s.round) _ item e₂ in
+    let same : Body (Replay events (after_first (λ b. b == 59) fields)) ≡ item = cc e₃ in
+    subst (OfBody s) same (of_eight words events (there_ok (events_of words) events why.Form are), tt)
 
 bare_fits : (s : SessionView) (said item : Item) (text : List ℕ) → OfBody s said → bare_line said text ≡ Ok item → OfBody s item
 bare_fits s said item text of_body e =
@@ -124,12 +142,14 @@ word_fits s text (Some word.Load) item e = load_fits s text item e
 word_fits s text (Some word.Limit) item e = limit_fits s text item e
 word_fits s text (Some word.Publish) item e = bare_fits s (Body Publish) item text (tt, tt) e
 word_fits s text (Some word.Ask) item e = ask_fits s text item e
+word_fits s text (Some word.Explain) item e = explain_fits s text item e
+word_fits s text (Some word.Replay) item e = replay_fits s text item e
 word_fits s text (Some word.Join) item e = bare_fits s Join item text tt e
 word_fits s text (Some word.End) item e = bare_fits s End item text tt e
 word_fits s text None item e = absurd (cc e)
 
 body_fits : (s : SessionView) (text : List ℕ) (item : Item) → body_line s text ≡ Ok item → OfBody s item
-body_fits s text item e = word_fits s text (word_of (first_word text)) item e
+body_fits s text item e = word_fits s text (word_of s.kind (first_word text)) item e
 
 -- ---- what any line says
 

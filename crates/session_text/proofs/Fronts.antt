@@ -45,3 +45,10 @@ member_joins {X} f old mid new xs i x at p q =
     let here : get_or xs i x ≡ x = sym (unwrap_or-slice_get xs i x) ∙ ap (λ o. unwrap_or o x) at in
     let longer : take (i + 1) xs ≡ take i xs ++ x ∷ [] = take_more xs i x (slice_get_within xs i x at) ∙ ap (λ (y : X). take i xs ++ y ∷ []) here in
     q ∙ ap (λ m. m ++ f x) p ∙ flat_map_more f old (take i xs) x ∙ ap (λ l. old ++ flat_map f l) (sym longer)
+
+-- a mark and a number, another mark and number, and an end
+pub pairs_join : (old mid next new a b c d e : List ℕ) → mid ≡ old ++ (a ++ b) → next ≡ mid ++ (c ++ d) → new ≡ next ++ e → new ≡ old ++ (a ++ b ++ c ++ d ++ e)
+pairs_join old mid next new a b c d e p q r =
+    r ∙ ap (λ m. m ++ e) (q ∙ ap (λ m. m ++ (c ++ d)) p)
+    ∙ (append_assoc (old ++ (a ++ b)) (c ++ d) e ∙ append_assoc old (a ++ b) ((c ++ d) ++ e)
+    ∙ ap (λ l. old ++ l) (sym (append_assoc (a ++ b) (c ++ d) e) ∙ ap (λ l. l ++ e) (sym (append_assoc (a ++ b) c d))))

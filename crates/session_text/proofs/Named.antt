@@ -10,7 +10,7 @@ use Rattle.std.proofs.lemmas.List.Quantifiers.{all_pairs_push}
 use Rattle.session_text.specs.Session.{SessionView, start, line_at, after_item, step_of, named_by, IsLineOf}
 use Rattle.session_text.specs.Reading.{lines_of, reading, reading_on, reading_from, reading_after, after_step, lines_of_rounds, feeds_named}
 use Rattle.session_text.specs.declared.body.BodyLine.{BodyLine}
-use Rattle.session_text.specs.declared.body.BodyLine.TheVariants.{Put, Drop, Load, Limit, Publish, Ask}
+use Rattle.session_text.specs.declared.body.BodyLine.TheVariants.{Put, Drop, Load, Limit, Publish, Ask, Explain, Replay}
 use Rattle.session_text.specs.declared.item.Item.{Item}
 use Rattle.session_text.specs.declared.item.Item.TheVariants.{Skipped, Title, Langs, Layer, Body, Join, End}
 use Rattle.session_text.specs.declared.session.Kind.{Kind}
@@ -62,6 +62,8 @@ line_named s line said is are = by said (fits_head s line said is) (unnamed_befo
     by (Limit n) fits unnamed = as_before
     by Publish fits unnamed = as_before
     by (Ask lane text) fits unnamed = as_before
+    by (Explain text) fits unnamed = as_before
+    by (Replay events text) fits unnamed = as_before
 
 -- the feeds that a session has named are these, and then those of its open round
 abbrev pub IsNaming : List ℕ → SessionView → Type 0

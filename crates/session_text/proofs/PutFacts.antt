@@ -1,5 +1,5 @@
 -- A line that puts a feature, once its layer's number is read.
-use Rattle.std.proofs.Common.{◌≡◌, ◌∙◌, ◌<◌, ◌≤◌, ℕ, List, length, Some, Result, Ok, Err, refl, ap, inl, inr, arith}
+use Rattle.std.proofs.Common.{◌≡◌, ◌∙◌, ◌<◌, ◌≤◌, ℕ, List, length, Some, Result, Ok, Err, IfOk, refl, ap, subst, inl, inr, arith}
 use Rattle.std.specs.Prelude.{ok_or, slice_get}
 use Rattle.std.proofs.lemmas.Option.{slice_get_past, slice_get_cases}
 use Rattle.geo_text.specs.Numbers.{number_of}
@@ -9,7 +9,9 @@ use Rattle.geo_layer.specs.Layer.{LayerView}
 use Rattle.geo_layer.specs.declared.head.Head.{Head}
 use Rattle.feature_reader.specs.Feature.{feature_of}
 use Rattle.session_text.specs.Lines.{next_field}
-use Rattle.session_text.specs.Session.{of_feature, put_line}
+use Rattle.geo_base.specs.declared.refusal.Refused.{Refused}
+use Rattle.feature_reader.proofs.Zooms.{bind_ok}
+use Rattle.session_text.specs.Session.{SessionView, Fits, of_feature, put_line}
 use Rattle.session_text.specs.declared.body.BodyLine.TheVariants.{Put}
 use Rattle.session_text.specs.declared.item.Item.{Item}
 use Rattle.session_text.specs.declared.item.Item.TheVariants.{Body}
@@ -45,3 +47,13 @@ module _ (head : Head) (text : List ℕ) (n : ℕ) (is : number_of (first_word (
     )
     | inr past ↦ absurd (omega (arith, within, past.0))
   ]
+
+-- a put asks nothing, so it can be added
+pub put_can_be_added : (s : SessionView) (head : Head) (text : List ℕ) (r : Result Item (Refused Why)) → IfOk r (λ item. put_line head text ≡ Ok item) → IfOk r (λ item. Fits s item)
+put_can_be_added s head text (Err e) is = tt
+put_can_be_added s head text (Ok item) is =
+    let (n, is_n, e₁) = bind_ok (ok_or (number_of (first_word (next_field text))) why.Form) _ item is in
+    let (layer, is_layer, e₂) = bind_ok (ok_or (slice_get head.layers n) why.Number) _ item e₁ in
+    let (f, is_f, e₃) = bind_ok (of_feature (feature_of layer head.langs (next_field (next_field text)))) _ item e₂ in
+    let same : Body (Put n f) ≡ item = cc e₃ in
+    subst (Fits s) same (λ asks. absurd (cc asks))

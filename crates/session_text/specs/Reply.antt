@@ -1,5 +1,5 @@
 -- Replies and the lines of a session's output, as text.
-use Rattle.std.specs.Prelude.{ℕ, ◌*◌, Bool, List, ◌++◌, length, codes, decimal, flat_map, sum_by, if◌then◌else◌, Result, Ok, Err}
+use Rattle.std.specs.Prelude.{ℕ, ◌*◌, Bool, List, [], ◌++◌, length, codes, decimal, flat_map, sum_by, if◌then◌else◌, Result, Ok, Err}
 use Rattle.geo_base.specs.TileView.{TileView}
 use Rattle.geo_base.specs.declared.link.Link.{Link}
 use Rattle.geo_base.specs.Order.{target_score}
@@ -14,6 +14,8 @@ use Rattle.geo_query.specs.declared.query.QueryFault.{QueryFault}
 use Rattle.geo_query.specs.declared.query.QueryFault.TheVariants.{WrongOption, Box, Long, Empty, Tokens}
 use Rattle.geo_query.specs.declared.reply.Reply.{Reply}
 use Rattle.geo_query.specs.declared.reply.Reply.TheVariants.{Found, Unreadable, Grids, Memory}
+use Rattle.session_text.specs.declared.replay_reply.ReplayReply.{ReplayReply}
+use Rattle.session_text.specs.declared.replay_reply.ReplayReply.TheVariants.{Plain, Illegal, Unfinished}
 
 -- `@Z/X/Y`
 abbrev pub tile_text : TileView → List ℕ
@@ -49,6 +51,21 @@ answer_text Memory = codes "memory\n"
 -- the text of an ask: its lane, its place among the lane's asks, and the reply
 abbrev pub reply_text : ℕ → ℕ → Reply → List ℕ
 reply_text lane place reply = codes "ask " ++ decimal lane ++ codes " " ++ decimal place ++ codes " " ++ answer_text reply
+
+-- how many partials the search opened and cut, where it found an answer; nothing after another reply
+abbrev pub counts_text : Reply → ℕ → ℕ → List ℕ
+counts_text (Found generation answer) opens cuts = codes "opens " ++ decimal opens ++ codes " cuts " ++ decimal cuts ++ codes "\n"
+counts_text reply opens cuts = []
+
+-- the text of an explained query: the reply, and how many partials the search opened and cut
+abbrev pub explain_text : Reply → ℕ → ℕ → List ℕ
+explain_text reply opens cuts = codes "explain " ++ answer_text reply ++ counts_text reply opens cuts
+
+-- the text of a query whose search went by given events: the reply; or the place of the first event that isn't allowed, or the first root that isn't done
+abbrev pub replay_text : ReplayReply → List ℕ
+replay_text (Plain reply) = codes "replay " ++ answer_text reply
+replay_text (Illegal generation place) = codes "replay gen " ++ decimal generation ++ codes " illegal " ++ decimal place ++ codes "\n"
+replay_text (Unfinished generation root) = codes "replay gen " ++ decimal generation ++ codes " unfinished " ++ decimal root ++ codes "\n"
 
 -- what a put answers, in a word: the feature is new, or it changed one that stood; or there would be too many features, or too many rows
 abbrev pub taken_word : Result Taken PutFault → List ℕ

@@ -1,6 +1,6 @@
 -- The grammar of a session: what each line says at its place, or its first fault.
 use Rattle.std.specs.Prelude.{◌≡◌, ℕ, ◌<◌, ◌≤◌, ⊤, Bool, true, false, List, [], ◌∷◌, ◌++◌, ◌&&◌, ◌==◌, not, nat_lt, nat_le, length, take, drop, codes, bytes_eq, count_by, slice_get, if◌then◌else◌, All, IfSome, IsSome, Option, Some, None, Result, Ok, Err, ok_or}
-use Rattle.std.specs.List.{list_all, list_any}
+use Rattle.std.specs.List.{list_all, list_any, before_first, after_first}
 use Rattle.std.specs.Str.{is_utf8}
 use Rattle.geo_text.specs.Numbers.{number_of, numbers_of}
 use Rattle.geo_text.specs.Words.{words_of, first_word, after_word}
@@ -12,14 +12,16 @@ use Rattle.geo_layer.specs.LayerText.{layer_of, last_zoom}
 use Rattle.geo_layer.specs.declared.layer.LayerFault.{LayerFault}
 use Rattle.feature_reader.specs.Feature.{feature_of}
 use Rattle.feature_reader.specs.declared.feature.FeatureFault.{FeatureFault}
+use Rattle.session_text.specs.Events.{events_of, IsOfEight}
 use Rattle.session_text.specs.Lines.{longest, line_text, is_skipped, next_field}
 use Rattle.session_text.specs.declared.body.BodyLine.{BodyLine}
-use Rattle.session_text.specs.declared.body.BodyLine.TheVariants.{Put, Drop, Load, Limit, Publish, Ask}
+use Rattle.session_text.specs.declared.body.BodyLine.TheVariants.{Put, Drop, Load, Limit, Publish, Ask, Explain, Replay}
 use Rattle.session_text.specs.declared.item.Item.{Item}
 use Rattle.session_text.specs.declared.item.Item.TheVariants.{Skipped, Title, Langs, Layer, Body, Join, End}
 use Rattle.session_text.specs.declared.item.Word.{Word}
 use Rattle.session_text.specs.declared.item.Word.TheVariants as word
 use Rattle.session_text.specs.declared.session.Kind.{Kind}
+use Rattle.session_text.specs.declared.session.Kind.TheVariants.{Asks, Replays}
 use Rattle.session_text.specs.declared.session.Stage.{Stage}
 use Rattle.session_text.specs.declared.session.Step.{Step}
 use Rattle.session_text.specs.declared.session.Step.TheVariants.{More, Ready, Last}
@@ -124,23 +126,52 @@ limit_line text =
 -- the line asks something
 abbrev pub is_asking : BodyLine → Bool
 is_asking (Ask lane text) = true
+is_asking (Explain text) = true
+is_asking (Replay events text) = true
 is_asking line = false
 
--- `ask LANE QUERY`: at most 4,096 in a round
+-- there is room for one more line that asks: a round has at most 4,096
+abbrev pub room_for_ask : List BodyLine → Result (Unit {0}) Why
+room_for_ask round = wanted (nat_lt (count_by is_asking round) 4096) why.Asks
+
+-- `ask LANE QUERY`
 abbrev pub ask_line : List BodyLine → List ℕ → Result Item Why
 ask_line round text =
     ok_or (number_of (first_word (next_field text))) why.Form >>= λ lane.
     wanted (nat_lt lane 8) why.Number >>= λ _.
-    wanted (nat_lt (count_by is_asking round) 4096) why.Asks >>= λ _.
+    room_for_ask round >>= λ _.
     Ok (Body (Ask lane (after_word (next_field text))))
+
+-- `explain QUERY`: the query is all that follows one space
+abbrev pub explain_line : List BodyLine → List ℕ → Result Item Why
+explain_line round text =
+    room_for_ask round >>= λ _.
+    Ok (Body (Explain (after_word text)))
+
+-- `replay EVENTS ; QUERY`: the events are words, none or more, up to the first semicolon; the query is all that follows it
+abbrev pub replay_line : List BodyLine → List ℕ → Result Item Why
+replay_line round text =
+    let fields = after_word text in
+    wanted (list_any (λ b. b == 59) fields) why.Form >>= λ _.
+    ok_or (events_of (words_of (before_first (λ b. b == 59) fields))) why.Form >>= λ events.
+    room_for_ask round >>= λ _.
+    Ok (Body (Replay events (after_first (λ b. b == 59) fields)))
 
 -- a line of one word
 abbrev pub bare_line : Item → List ℕ → Result Item Why
 bare_line item text = wanted (nat_lt (length (words_of text)) 2) why.Form >>= λ _. Ok item
 
--- the word of a line of the body
-abbrev pub word_of : List ℕ → Option Word
-word_of w =
+-- the word of a line that tells of a search, which not every kind of session has
+abbrev pub search_word_of : Kind → List ℕ → Option Word
+search_word_of Asks w = None
+search_word_of Replays w =
+    if bytes_eq w (codes "explain") then Some word.Explain
+    else if bytes_eq w (codes "replay") then Some word.Replay
+    else None
+
+-- the word of a line of the body in a session of this kind
+abbrev pub word_of : Kind → List ℕ → Option Word
+word_of kind w =
     if bytes_eq w (codes "put") then Some word.Put
     else if bytes_eq w (codes "drop") then Some word.Drop
     else if bytes_eq w (codes "load") then Some word.Load
@@ -149,7 +180,7 @@ word_of w =
     else if bytes_eq w (codes "ask") then Some word.Ask
     else if bytes_eq w (codes "join") then Some word.Join
     else if bytes_eq w (codes "end") then Some word.End
-    else None
+    else search_word_of kind w
 
 -- a line with this word
 abbrev pub line_of_word : SessionView → List ℕ → Option Word → Result Item Why
@@ -159,13 +190,15 @@ line_of_word session text (Some word.Load) = load_line session text
 line_of_word session text (Some word.Limit) = limit_line text
 line_of_word session text (Some word.Publish) = bare_line (Body Publish) text
 line_of_word session text (Some word.Ask) = ask_line session.round text
+line_of_word session text (Some word.Explain) = explain_line session.round text
+line_of_word session text (Some word.Replay) = replay_line session.round text
 line_of_word session text (Some word.Join) = bare_line Join text
 line_of_word session text (Some word.End) = bare_line End text
 line_of_word session text None = Err why.Word
 
 -- a line of the body
 abbrev pub body_line : SessionView → List ℕ → Result Item Why
-body_line session text = line_of_word session text (word_of (first_word text))
+body_line session text = line_of_word session text (word_of session.kind (first_word text))
 
 -- ---- a line at its place
 
@@ -226,18 +259,19 @@ step_of round Join = Ready round
 step_of round End = Last round
 step_of round item = More
 
--- the line can be added: there are fewer than 16 layers, whose zooms don't fall; and fewer than 4,096 asks
+-- the line can be added: there are fewer than 16 layers, whose zooms don't fall; and fewer than 4,096 lines that ask
 abbrev pub Fits : SessionView → Item → Type 0
 Fits session (Layer layer) = (length session.head.layers < 16) × (last_zoom session.head.layers ≤ layer.zoom)
 Fits session (Body line) = is_asking line ≡ true → count_by is_asking session.round < 4096
 Fits session item = ⊤
 
--- what each line of the body keeps, where so many feeds are handed in: the layer of a put is one of the head, and the tiles of its feature have its zoom; the feed of a load is one of those, and its layer one of the head; a limit is 1 to 8,388,608; the lane of an ask is below 8
+-- what each line of the body keeps, where so many feeds are handed in: the layer of a put is one of the head, and the tiles of its feature have its zoom; the feed of a load is one of those, and its layer one of the head; a limit is 1 to 8,388,608; the lane of an ask is below 8; the events of a replay are those of eight workers
 abbrev pub IsLineOf : ℕ → Head → BodyLine → Type 0
 IsLineOf feeds head (Put layer f) = IsSome (slice_get head.layers layer) × IfSome (slice_get head.layers layer) (λ l. All (λ t. t.z ≡ l.zoom) f.tiles)
 IsLineOf feeds head (Load feed layer) = (feed < feeds) × IsSome (slice_get head.layers layer)
 IsLineOf feeds head (Limit n) = (1 ≤ n) × (n ≤ 8388608)
 IsLineOf feeds head (Ask lane text) = lane < 8
+IsLineOf feeds head (Replay events text) = All IsOfEight events
 IsLineOf feeds head line = ⊤
 
 -- the fault is found before any room is asked for, by a session that isn't spent

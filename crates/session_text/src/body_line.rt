@@ -2,23 +2,24 @@
 
 ghost use Rattle.std.specs.Prelude.{◌≡◌, false, List, count_by, Ok, Err, IfOk};
 ghost use Rattle.geo_base.specs.declared.refusal.Refused.TheVariants as refused;
-ghost use Rattle.session_text.specs.Session.{put_line, drop_line, limit_line, ask_line, bare_line, is_asking, needs_no_room};
+ghost use Rattle.session_text.specs.Session.{put_line, drop_line, limit_line, ask_line, explain_line, replay_line, bare_line, is_asking, needs_no_room};
 ghost use Rattle.session_text.specs.declared.body.BodyLine.{BodyLine};
 ghost use Rattle.session_text.specs.declared.why.Why.{Why};
 
 use crate::body::BodyLine;
-use crate::fields::{is_bare, next_field, one_number, two_numbers};
+use crate::events::{are_events, read_events};
+use crate::fields::{has_semicolon, is_bare, next_field, one_number, two_numbers};
 use crate::item::Item;
 use crate::why::Why;
 use feature_reader::read_feature::FeatureReader;
 use geo_base::refusal::Refused;
 use geo_layer::head::Head;
-use geo_text::cut::{after_word_of, first_word, skip_spaces_of};
+use geo_text::cut::{after_word_of, before, first_word, skip_spaces_of, text_after};
 use geo_text::number::number;
 use geo_text::text::Text;
 use std::alloc::Global;
 
-/// The most asks of a round.
+/// The most lines of a round that ask.
 const MOST_ASKS: u64 = 4096;
 
 /// `put L JSON`.
@@ -80,7 +81,7 @@ pub fn read_limit(text: &[u8]) -> Result<Item, Why>
     Ok(Item::Body(BodyLine::Limit { n }))
 }
 
-/// `ask LANE QUERY`, in a round that has so many asks.
+/// `ask LANE QUERY`, in a round in which so many lines ask.
 pub fn read_ask(alloc: Global, asks: u64, text: &str) -> Result<Item, Refused<Why>>
     ensures ok { (round : List BodyLine) → count_by is_asking round ≡ asks → IfOk result (λ item. ask_line round text.now ≡ Ok item) }
     ensures fault { (round : List BodyLine) → count_by is_asking round ≡ asks → (why : Why) → result ≡ Err (refused.Fault why) → ask_line round text.now ≡ Err why }
@@ -99,6 +100,46 @@ pub fn read_ask(alloc: Global, asks: u64, text: &str) -> Result<Item, Refused<Wh
     Ok(Item::Body(BodyLine::Ask {
         lane: lane as u8,
         text: Text::of(alloc, after_word_of(fields))?,
+    }))
+}
+
+/// `explain QUERY`, in a round in which so many lines ask.
+pub fn read_explain(alloc: Global, asks: u64, text: &str) -> Result<Item, Refused<Why>>
+    ensures ok { (round : List BodyLine) → count_by is_asking round ≡ asks → IfOk result (λ item. explain_line round text.now ≡ Ok item) }
+    ensures fault { (round : List BodyLine) → count_by is_asking round ≡ asks → (why : Why) → result ≡ Err (refused.Fault why) → explain_line round text.now ≡ Err why }
+    ensures memory { result ≡ Err refused.Memory → (round : List BodyLine) → count_by is_asking round ≡ asks → (why : Why) → explain_line round text.now ≡ Err why → needs_no_room why ≡ false }
+{
+    if asks >= MOST_ASKS {
+        return Err(Refused::Fault(Why::Asks));
+    }
+    Ok(Item::Body(BodyLine::Explain {
+        text: Text::of(alloc, after_word_of(text))?,
+    }))
+}
+
+/// `replay EVENTS ; QUERY`, in a round in which so many lines ask. All words are tried before room is asked for.
+pub fn read_replay(alloc: Global, asks: u64, text: &str) -> Result<Item, Refused<Why>>
+    ensures ok { (round : List BodyLine) → count_by is_asking round ≡ asks → IfOk result (λ item. replay_line round text.now ≡ Ok item) }
+    ensures fault { (round : List BodyLine) → count_by is_asking round ≡ asks → (why : Why) → result ≡ Err (refused.Fault why) → replay_line round text.now ≡ Err why }
+    ensures memory { result ≡ Err refused.Memory → (round : List BodyLine) → count_by is_asking round ≡ asks → (why : Why) → replay_line round text.now ≡ Err why → needs_no_room why ≡ false }
+{
+    let fields = after_word_of(text);
+    if !has_semicolon(fields.as_bytes()) {
+        return Err(Refused::Fault(Why::Form));
+    }
+    let words = before(fields.as_bytes(), b';');
+    if !are_events(words) {
+        return Err(Refused::Fault(Why::Form));
+    }
+    if asks >= MOST_ASKS {
+        return Err(Refused::Fault(Why::Asks));
+    }
+    let Some(events) = read_events(alloc, words)? else {
+        return Err(Refused::Fault(Why::Form));
+    };
+    Ok(Item::Body(BodyLine::Replay {
+        events,
+        text: Text::of(alloc, text_after(fields, b';'))?,
     }))
 }
 

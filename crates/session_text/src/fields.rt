@@ -1,7 +1,7 @@
 //! The fields of a line.
 
 ghost use Rattle.std.specs.Prelude.{◌≡◌, ◌==◌, true, false, length, Some, None, MatchOption, ok_or, nat_lt};
-ghost use Rattle.std.specs.List.{list_all};
+ghost use Rattle.std.specs.List.{list_all, list_any};
 ghost use Rattle.std.specs.Str.{is_utf8};
 ghost use Rattle.geo_text.specs.Words.{words_of};
 ghost use Rattle.session_text.specs.Lines.{line_text, is_skipped, next_field};
@@ -43,6 +43,13 @@ pub fn is_skipped(text: &[u8]) -> bool
     ensures { result ≡ is_skipped text.now }
 {
     are_spaces(text) || text.first() == Some(&b'#')
+}
+
+/// Whether the text has a semicolon.
+pub fn has_semicolon(text: &[u8]) -> bool
+    ensures { result ≡ list_any (λ b. b == 59) text.now }
+{
+    text.iter().any(|b| *b == b';')
 }
 
 /// What follows the first word and its spaces.

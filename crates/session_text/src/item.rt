@@ -1,9 +1,10 @@
 //! What a line of a session says.
 
 ghost use Rattle.std.specs.Prelude.{◌≡◌};
-ghost use Rattle.session_text.specs.Session.{word_of};
+ghost use Rattle.session_text.specs.Session.{word_of, search_word_of};
 
 use crate::body::BodyLine;
+use crate::session::Kind;
 use geo_layer::langs::Langs;
 use geo_layer::layer::Layer;
 
@@ -41,15 +42,37 @@ pub enum Word {
     Publish,
     /// `ask`
     Ask,
+    /// `explain`
+    Explain,
+    /// `replay`
+    Replay,
     /// `join`
     Join,
     /// `end`
     End,
 }
 
-/// The word that these bytes are; None where no line of the body begins with them.
-pub fn word_of(word: &[u8]) -> Option<Word>
-    ensures { result ≡ word_of word.now }
+/// The word of a line that tells of a search, where these bytes are one, and a session of this kind has such lines.
+fn search_word_of(kind: Kind, word: &[u8]) -> Option<Word>
+    ensures { result ≡ search_word_of kind word.now }
+{
+    match kind {
+        Kind::Asks => None,
+        Kind::Replays => {
+            if word == b"explain".as_slice() {
+                return Some(Word::Explain);
+            }
+            if word == b"replay".as_slice() {
+                return Some(Word::Replay);
+            }
+            None
+        }
+    }
+}
+
+/// The word that these bytes are; None where no line of the body begins with them in a session of this kind.
+pub fn word_of(kind: Kind, word: &[u8]) -> Option<Word>
+    ensures { result ≡ word_of kind word.now }
 {
     if word == b"put".as_slice() {
         Some(Word::Put)
@@ -68,6 +91,6 @@ pub fn word_of(word: &[u8]) -> Option<Word>
     } else if word == b"end".as_slice() {
         Some(Word::End)
     } else {
-        None
+        search_word_of(kind, word)
     }
 }

@@ -10,7 +10,9 @@ ghost use Rattle.session_text.specs.declared.session.Stage.TheVariants as at;
 ghost use Rattle.session_text.specs.declared.why.Why.{Why};
 
 use crate::body::{BodyLine, Round};
-use crate::body_line::{read_ask, read_bare, read_drop, read_limit, read_put};
+use crate::body_line::{
+    read_ask, read_bare, read_drop, read_explain, read_limit, read_put, read_replay,
+};
 use crate::fields::{is_skipped, line_text, two_numbers, utf8};
 use crate::head_line::{read_langs_line, read_layer_line, read_title};
 use crate::item::{Item, Word, word_of};
@@ -32,6 +34,8 @@ pub const LONGEST: usize = 1_048_576;
 pub enum Kind {
     /// `ask` alone.
     Asks,
+    /// `ask`, `explain` and `replay`.
+    Replays,
 }
 
 /// Where a session stands.
@@ -210,13 +214,15 @@ impl Session {
         ensures kept { self.new ≡ self.old }
     {
         let bytes = text.as_bytes();
-        match word_of(first_word(bytes)) {
+        match word_of(self.kind, first_word(bytes)) {
             Some(Word::Put) => read_put(&mut self.reader, &self.head, bytes),
             Some(Word::Drop) => told(read_drop(&self.head, bytes)),
             Some(Word::Load) => told(self.read_load(bytes)),
             Some(Word::Limit) => told(read_limit(bytes)),
             Some(Word::Publish) => told(read_bare(Item::Body(BodyLine::Publish), bytes)),
             Some(Word::Ask) => read_ask(self.alloc, self.asks, text),
+            Some(Word::Explain) => read_explain(self.alloc, self.asks, text),
+            Some(Word::Replay) => read_replay(self.alloc, self.asks, text),
             Some(Word::Join) => told(read_bare(Item::Join, bytes)),
             Some(Word::End) => told(read_bare(Item::End, bytes)),
             None => Err(Refused::Fault(Why::Word)),
@@ -328,7 +334,12 @@ fn is_among(named: &[u32], feed: u64) -> bool
 fn is_asking(line: &BodyLine) -> bool
     ensures { result ≡ is_asking line.now }
 {
-    matches!(line, BodyLine::Ask { .. })
+    match line {
+        BodyLine::Ask { .. } => true,
+        BodyLine::Explain { .. } => true,
+        BodyLine::Replay { .. } => true,
+        _ => false,
+    }
 }
 
 /// The feed that a line names.

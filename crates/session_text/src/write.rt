@@ -1,11 +1,13 @@
 //! The text of each answer. Each public call appends to what stands in `out`; after want of memory that is as it was.
 
-ghost use Rattle.std.specs.Prelude.{◌≡◌, ◌≤◌, ◌*◌, ◌++◌, length, decimal, flat_map, sum_by, take, OnOk, OnErr};
+ghost use Rattle.std.specs.Prelude.{◌≡◌, ◌≤◌, ◌*◌, ◌++◌, length, codes, decimal, flat_map, sum_by, take, OnOk, OnErr};
 ghost use Rattle.std.specs.Io.{StartsWith};
 ghost use Rattle.geo_base.specs.Order.{target_score};
-ghost use Rattle.session_text.specs.Reply.{tile_text, link_text, context_text, fault_text, answer_text, reply_text, taken_word, put_text, published_text, drop_text, end_text, report_text, load_text, limit_text};
+ghost use Rattle.session_text.specs.Reply.{tile_text, link_text, context_text, fault_text, answer_text, reply_text, counts_text, explain_text, replay_text, taken_word, put_text, published_text, drop_text, end_text, report_text, load_text, limit_text};
 ghost use Rattle.geo_query.specs.declared.reply.Reply.TheVariants.{Unreadable, Grids};
+ghost use Rattle.session_text.specs.declared.replay_reply.ReplayReply.TheVariants.{Plain, Illegal, Unfinished};
 
+use crate::replay_reply::ReplayReply;
 use feature_reader::load_report::{LoadEnd, LoadReport};
 use feature_reader::taker::{PutFault, Taken};
 use geo_base::answer::Contexts;
@@ -199,6 +201,85 @@ fn push_reply(out: &mut Vec<u8>, lane: u8, place: u64, r: &Reply) -> Result<(), 
     Ok(())
 }
 
+/// Appends how many partials a search opened and cut.
+fn push_counts(out: &mut Vec<u8>, opens: u64, cuts: u64) -> Result<(), Memory>
+    ensures ok { OnOk result (out.new.items ≡ out.old.items ++ (codes "opens " ++ decimal opens ++ codes " cuts " ++ decimal cuts ++ codes "\n")) }
+    ensures err { OnErr result (StartsWith out.new.items out.old.items) }
+{
+    push_number(out, b"opens ", opens)?;
+    push_number(out, b" cuts ", cuts)?;
+    push(out, b"\n")?;
+    Ok(())
+}
+
+/// Appends how many partials a search opened and cut, where it found an answer.
+fn write_counts(out: &mut Vec<u8>, r: &Reply, opens: u64, cuts: u64) -> Result<(), Memory>
+    ensures ok { OnOk result (out.new.items ≡ out.old.items ++ counts_text r.now opens cuts) }
+    ensures err { OnErr result (StartsWith out.new.items out.old.items) }
+{
+    match r {
+        Reply::Found { .. } => push_counts(out, opens, cuts),
+        Reply::Unreadable(_) => Ok(()),
+        Reply::Grids { .. } => Ok(()),
+        Reply::Memory => Ok(()),
+    }
+}
+
+/// Appends the text of an explained query.
+fn push_explain(out: &mut Vec<u8>, r: &Reply, opens: u64, cuts: u64) -> Result<(), Memory>
+    ensures ok { OnOk result (out.new.items ≡ out.old.items ++ explain_text r.now opens cuts) }
+    ensures err { OnErr result (StartsWith out.new.items out.old.items) }
+{
+    push(out, b"explain ")?;
+    write_answer(out, r)?;
+    write_counts(out, r, opens, cuts)?;
+    Ok(())
+}
+
+/// Appends the text of a query whose search went by given events, and which is answered as an ask is.
+fn push_replayed(out: &mut Vec<u8>, r: &Reply) -> Result<(), Memory>
+    ensures ok { OnOk result (out.new.items ≡ out.old.items ++ replay_text (Plain r.now)) }
+    ensures err { OnErr result (StartsWith out.new.items out.old.items) }
+{
+    push(out, b"replay ")?;
+    write_answer(out, r)?;
+    Ok(())
+}
+
+/// Appends the text of a query whose search had an event that isn't allowed.
+fn push_illegal(out: &mut Vec<u8>, generation: u32, place: u64) -> Result<(), Memory>
+    ensures ok { OnOk result (out.new.items ≡ out.old.items ++ replay_text (Illegal generation place)) }
+    ensures err { OnErr result (StartsWith out.new.items out.old.items) }
+{
+    push_number(out, b"replay gen ", u64::from(generation))?;
+    push_number(out, b" illegal ", place)?;
+    push(out, b"\n")?;
+    Ok(())
+}
+
+/// Appends the text of a query whose search left a root.
+fn push_unfinished(out: &mut Vec<u8>, generation: u32, root: u32) -> Result<(), Memory>
+    ensures ok { OnOk result (out.new.items ≡ out.old.items ++ replay_text (Unfinished generation root)) }
+    ensures err { OnErr result (StartsWith out.new.items out.old.items) }
+{
+    push_number(out, b"replay gen ", u64::from(generation))?;
+    push_number(out, b" unfinished ", u64::from(root))?;
+    push(out, b"\n")?;
+    Ok(())
+}
+
+/// Appends the text of a query whose search went by given events.
+fn push_replay(out: &mut Vec<u8>, r: &ReplayReply) -> Result<(), Memory>
+    ensures ok { OnOk result (out.new.items ≡ out.old.items ++ replay_text r.now) }
+    ensures err { OnErr result (StartsWith out.new.items out.old.items) }
+{
+    match r {
+        ReplayReply::Plain(reply) => push_replayed(out, reply),
+        ReplayReply::Illegal { generation, place } => push_illegal(out, *generation, *place),
+        ReplayReply::Unfinished { generation, root } => push_unfinished(out, *generation, *root),
+    }
+}
+
 /// What a put answers, in a word.
 fn taken_word(answer: &Result<Taken, PutFault>) -> &'static [u8]
     ensures { result.now ≡ taken_word answer.now }
@@ -312,6 +393,27 @@ pub fn write_reply(out: &mut Vec<u8>, lane: u8, place: u64, r: &Reply) -> Result
 {
     let start = out.len();
     let written = push_reply(out, lane, place, r);
+    undo_failed(out, start, written)
+}
+
+/// Appends the text of an explained query: the reply, and behind a found answer how many partials its search opened and cut.
+pub fn write_explain(out: &mut Vec<u8>, r: &Reply, opens: u64, cuts: u64) -> Result<(), Memory>
+    ensures ok { OnOk result (out.new.items ≡ out.old.items ++ explain_text r.now opens cuts) }
+    ensures err { OnErr result (out.new.items ≡ out.old.items) }
+{
+    let start = out.len();
+    let written = push_explain(out, r, opens, cuts);
+    undo_failed(out, start, written)
+}
+
+/// Appends the text of a query whose search went by given events: the reply, or the place of the first event that isn't
+/// allowed, or the first root that isn't done.
+pub fn write_replay(out: &mut Vec<u8>, r: &ReplayReply) -> Result<(), Memory>
+    ensures ok { OnOk result (out.new.items ≡ out.old.items ++ replay_text r.now) }
+    ensures err { OnErr result (out.new.items ≡ out.old.items) }
+{
+    let start = out.len();
+    let written = push_replay(out, r);
     undo_failed(out, start, written)
 }
 
