@@ -2,6 +2,7 @@ mod Answered
 mod Drained
 mod Fed
 mod FedBy
+mod JobFacts
 mod Kept
 mod Lines
 mod Moves

@@ -1,6 +1,6 @@
 -- Lines that are answered one after another.
 use Rattle.std.proofs.Common.{◌≡◌, ◌∙◌, ◌+◌, ◌<◌, ◌≤◌, ℕ, suc, List, [], ◌∷◌, ◌++◌, length, All, Option, None, Some, Result, Ok, Err, OnErr, map, refl, sym, ap, subst, arith, append_assoc, append-nil, length-set}
-use Rattle.std.specs.Prelude.{slice_get, slice_index, IsSome, IfSome}
+use Rattle.std.specs.Prelude.{slice_get, slice_index, IsSome}
 use Rattle.std.proofs.lemmas.Option.{slice_get_within}
 use Rattle.std.proofs.lemmas.List.{map-append}
 use Rattle.std.proofs.lemmas.List.Elements.{All-head, All-tail, All-weaker, All-set}
@@ -11,7 +11,7 @@ use Rattle.feature_feed.specs.Load as given
 use Rattle.session_text.specs.Reading.{feeds_named}
 use Rattle.session_text.specs.Session.{IsLineOf, named_by}
 use Rattle.session_text.specs.declared.body.BodyLine.{BodyLine}
-use Rattle.session_text.specs.declared.body.BodyLine.TheVariants.{Put, Drop, Load, Limit, Publish, Ask}
+use Rattle.session_text.specs.declared.body.BodyLine.TheVariants.{Put, Drop, Load, Limit, Publish, Ask, Explain, Replay}
 use Rattle.query_server.specs.Generations.{BuilderState, after_line, builder_after}
 use Rattle.query_server.specs.Plain.{AskCounts, counts_after, asks_after, IsText}
 use Rattle.query_server.specs.Running.{RunLoads, Agrees, MayBePulled, ArePulled, AreLoaded, Stood, builder_of, asks_of, IsStep, IsAnswered, IsReady}
@@ -38,6 +38,8 @@ number_after loads builder (Load feed layer) = omega arith
 number_after loads builder (Limit n) = omega arith
 number_after loads builder Publish = omega arith
 number_after loads builder (Ask lane text) = omega arith
+number_after loads builder (Explain text) = omega arith
+number_after loads builder (Replay events text) = omega arith
 
 -- the counts of the lanes keep their bound
 counts_bounded : (feeds : ℕ) (head : Head) (counts : AskCounts) (line : BodyLine) (left bound : ℕ) → length counts ≡ 8 → IsLineOf feeds head line → All (λ n. n + suc left ≤ bound) counts → All (λ n. n + left ≤ bound) (counts_after counts line)
@@ -52,6 +54,8 @@ counts_bounded feeds head counts line left bound eight fits all = by line fits
     by (Load feed layer) fits = weaker
     by (Limit n) fits = weaker
     by Publish fits = weaker
+    by (Explain text) fits = weaker
+    by (Replay events text) fits = weaker
     by (Ask lane text) within =
         let here : slice_index counts lane + suc left ≤ bound = all lane 0 (omega (arith, within, eight)) in
         All-set (λ n. n + left ≤ bound) counts lane (slice_index counts lane + 1) (omega (arith, here)) weaker
@@ -62,6 +66,8 @@ counts_length counts (Drop layer id) = refl
 counts_length counts (Load feed layer) = refl
 counts_length counts (Limit n) = refl
 counts_length counts Publish = refl
+counts_length counts (Explain text) = refl
+counts_length counts (Replay events text) = refl
 counts_length counts (Ask lane text) = length-set counts lane (slice_index counts lane + 1)
 
 -- what stands fits the lines that are left after a line
@@ -114,6 +120,8 @@ apart_line (Load feed layer) = λ i j d less within. absurd (omega (arith, less,
 apart_line (Limit n) = λ i j d less within. absurd (omega (arith, within))
 apart_line Publish = λ i j d less within. absurd (omega (arith, within))
 apart_line (Ask lane text) = λ i j d less within. absurd (omega (arith, within))
+apart_line (Explain text) = λ i j d less within. absurd (omega (arith, within))
+apart_line (Replay events text) = λ i j d less within. absurd (omega (arith, within))
 
 -- so there is something that the feeds may have given
 step_of_some : (head : Head) (line : BodyLine) (old new : Stood) (out out_after : List ℕ) (m n : List FeedView) → HasAnswered head line old new out out_after m n → (loads : Loads) × IsStep loads head line old new out out_after

@@ -1,4 +1,5 @@
 pub mod Generations
+pub mod Search
 pub mod Plain
 pub mod Promise
 pub mod Examples

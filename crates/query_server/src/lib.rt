@@ -2,6 +2,7 @@
 //! before more is read.
 #![tactic(auto)]
 
+mod answering;
 pub mod laws;
 mod line_reader;
 mod respond;

@@ -1,25 +1,23 @@
 //! Answers the lines of a round in order, and makes their text.
 
-ghost use Rattle.std.specs.Prelude.{◌≡◌, ◌⊎◌, ◌<◌, ◌≤◌, ℕ, ◌+◌, true, false, List, [], ◌∷◌, length, map, slice_get, All, OnOk, OnErr, IfOk, Some, Ok, Err};
+ghost use Rattle.std.specs.Prelude.{◌≡◌, ◌<◌, ◌≤◌, ℕ, ◌+◌, List, [], ◌∷◌, length, map, slice_get, All, OnOk, OnErr, IfOk, Some, Ok, Err};
 ghost use Rattle.std.specs.Arc.{arc_value};
-ghost use Rattle.geo_base.specs.declared.grids.Grids.{Grids};
-ghost use Rattle.geo_base.specs.declared.refusal.Refused.TheVariants as refused;
 ghost use Rattle.geo_layer.specs.declared.head.Head.{Head};
 ghost use Rattle.geo_layer.specs.Layer.{LayerView};
-ghost use Rattle.geo_query.specs.declared.reply.Reply.{Reply};
-ghost use Rattle.plain_answer.specs.Answering.{answer_of};
 ghost use Rattle.feature_reader.specs.Table.{put, put_answer};
 ghost use Rattle.feature_reader.specs.declared.taker.PutFault.{PutFault};
 ghost use Rattle.feature_feed.specs.Drain.{after_items};
 ghost use Rattle.feature_feed.specs.Load.{Loads, Load, report_of};
+ghost use Rattle.search_core.specs.Machine.{worker_of};
 ghost use Rattle.session_text.specs.Reading.{feeds_named};
 ghost use Rattle.session_text.specs.Session.{named_by};
 ghost use Rattle.session_text.specs.declared.body.BodyLine.{BodyLine};
 ghost use Rattle.session_text.specs.declared.body.BodyLine.TheVariants as body;
 ghost use Rattle.query_server.specs.Generations.{new_builder};
-ghost use Rattle.query_server.specs.Plain.{reply_of, reply_to, is_refused_outright, no_asks};
+ghost use Rattle.query_server.specs.Plain.{no_asks};
 ghost use Rattle.query_server.specs.Running.{Stood, builder_of, IsOfSession, HasPlace, RunLoads, Agrees, IsPulled, MayBePulled, ArePulled, AreLoaded, IsStep, IsAnswered, IsReady};
 
+use crate::answering::{explained_reply, replayed_reply};
 use feature_feed::drain::drain;
 use feature_feed::feed::Feed;
 use feature_reader::feature::Feature;
@@ -27,22 +25,14 @@ use feature_reader::load_report::LoadReport;
 use feature_reader::taker::{PutFault, Taken, Taker};
 use generation::builder::Builder;
 use generation::generation::Generation;
-use geo_base::answer::Answer;
-use geo_base::grids::Grids;
 use geo_base::refusal::{Memory, Refused};
 use geo_layer::head::Head;
-use geo_query::query::Query;
-use geo_query::read_query::read_query;
-use geo_query::reply::Reply;
 use geo_text::text::Text;
-use phrase_match::laws::job_is_right;
-use phrase_match::matching::matches;
-use phrase_match::plain_rows::PlainRows;
-use search_core::kept_rows::KeptRows;
-use search_core::one::search_alone;
 use session_text::body::{BodyLine, Round};
+use session_text::events::Events;
 use session_text::write::{
-    write_drop, write_limit, write_load, write_published, write_put, write_reply,
+    write_drop, write_explain, write_limit, write_load, write_published, write_put, write_replay,
+    write_reply,
 };
 use std::alloc::Global;
 use std::sync::Arc;
@@ -72,55 +62,6 @@ impl Standing {
             last,
             asks: [0; 8],
         })
-    }
-}
-
-/// The answer of a generation to a query: the search of its job, whose pieces are found and counted before any is decoded.
-fn answer_in(
-    alloc: Global,
-    generation: &Generation,
-    query: &Query,
-) -> Result<Answer, Refused<Grids>>
-    ensures answer { IfOk result (λ a. answer_of generation.now.head generation.now.table generation.now.limit query.now ≡ Ok a) }
-    ensures grids { (g : Grids) → result ≡ Err (refused.Fault g) → answer_of generation.now.head generation.now.table generation.now.limit query.now ≡ Err g }
-{
-    job_is_right();
-    let _tokens = query.tokens(); // brings the rule of a query here
-    let _number = generation.number(); // brings the rule of a generation here
-    let job = matches(alloc, generation, query)?;
-    let plain = PlainRows::new(alloc, generation, query);
-    let mut rows = KeptRows::new(alloc, plain, job.pieces.as_slice().len())?;
-    let found = search_alone(alloc, &job, &mut rows)?;
-    Ok(found.top.answer(job.tokens))
-}
-
-/// The reply of a generation to a query that was read.
-fn reply_of_query(alloc: Global, generation: &Generation, query: &Query) -> Reply
-    ensures { (result ≡ reply_of generation.now.number (answer_of generation.now.head generation.now.table generation.now.limit query.now)) ⊎ (result ≡ Reply.Memory) }
-{
-    let number = generation.number();
-    match answer_in(alloc, generation, query) {
-        Ok(answer) => Reply::Found {
-            generation: number,
-            answer,
-        },
-        Err(Refused::Fault(Grids { total, limit })) => Reply::Grids {
-            generation: number,
-            total,
-            limit,
-        },
-        Err(Refused::Memory) => Reply::Memory,
-    }
-}
-
-/// The reply of a generation to the text of a query.
-fn reply(alloc: Global, generation: &Generation, text: &str) -> Reply
-    ensures { (result ≡ reply_to generation.now text.now) ⊎ ((is_refused_outright text.now ≡ false) × (result ≡ Reply.Memory)) }
-{
-    match read_query(alloc, text) {
-        Ok(query) => reply_of_query(alloc, generation, &query),
-        Err(Refused::Fault(fault)) => Reply::Unreadable(fault),
-        Err(Refused::Memory) => Reply::Memory,
     }
 }
 
@@ -202,11 +143,34 @@ fn ask(
     requires few { All (λ n. n < 4294967295) standing.old.asks }
     ensures { (loads : Loads) (head : Head) → IsOfSession head (Some standing.old) → OnOk result (IsStep loads head (body.Ask lane text.now) (Some standing.old) (Some standing.new) out.old.items out.new.items) }
 {
-    let reply = reply(alloc, &standing.last, text.as_str());
+    let said = explained_reply(alloc, &standing.last, text.as_str());
     let place = standing.asks[lane as usize];
-    write_reply(out, lane, place, &reply)?;
+    write_reply(out, lane, place, &said.reply)?;
     standing.asks[lane as usize] = place + 1;
     Ok(())
+}
+
+/// Answers a query, and tells how many partials its search opened and cut.
+fn explain(alloc: Global, standing: &Standing, text: &Text, out: &mut Vec<u8>) -> Result<(), Memory>
+    ensures { (loads : Loads) (head : Head) → IsOfSession head (Some standing.now) → OnOk result (IsStep loads head (body.Explain text.now) (Some standing.now) (Some standing.now) out.old.items out.new.items) }
+{
+    let said = explained_reply(alloc, &standing.last, text.as_str());
+    write_explain(out, &said.reply, said.opens, said.cuts)
+}
+
+/// Answers a query by a search that goes by these events.
+fn replay(
+    alloc: Global,
+    standing: &Standing,
+    events: &Events,
+    text: &Text,
+    out: &mut Vec<u8>,
+) -> Result<(), Memory>
+    requires { All (λ e. worker_of e < 8) events.now }
+    ensures { (loads : Loads) (head : Head) → IsOfSession head (Some standing.now) → OnOk result (IsStep loads head (body.Replay events.now text.now) (Some standing.now) (Some standing.now) out.old.items out.new.items) }
+{
+    let said = replayed_reply(alloc, &standing.last, events.as_slice(), text.as_str());
+    write_replay(out, &said)
 }
 
 /// Fills a layer of the builder from a feed that was lent.
@@ -273,6 +237,8 @@ fn answer_line(
         BodyLine::Limit { n } => set_limit(standing, n, out),
         BodyLine::Publish => publish(standing, out),
         BodyLine::Ask { lane, text } => ask(alloc, standing, lane, &text, out),
+        BodyLine::Explain { text } => explain(alloc, standing, &text, out),
+        BodyLine::Replay { events, text } => replay(alloc, standing, &events, &text, out),
     }
 }
 
@@ -291,8 +257,9 @@ fn answer_lines(
     ensures stopped { OnErr result (MayBePulled (feeds_named round) (map (λ b. shows b) feeds.old.items) (map (λ b. shows b) feeds.new.items)) }
     ensures count { length feeds.new.items ≡ length feeds.old.items }
 {
+    let mut left = round;
     let mut out = Vec::new(alloc);
-    for line in round.into_vec() {
+    while let Some(line) = left.next() {
         answer_line(alloc, head, standing, feeds, line, &mut out)?;
     }
     Ok(out)
