@@ -1,14 +1,14 @@
 -- What a run of the program does: it tells of itself, or calls `carmen`; and how it ends.
-use Rattle.std.specs.Prelude.{◌≡◌, ◌≢◌, ◌↔◌, ◌≤◌, ℕ, true, false, List, [], ◌∷◌, ◌++◌, ◌||◌, length, codes, decimal, bytes_eq, if◌then◌else◌, Option, Some, None}
+use Rattle.std.specs.Prelude.{◌≡◌, ◌≢◌, ◌↔◌, ◌≤◌, ℕ, List, [], ◌∷◌, ◌++◌, ◌||◌, length, codes, decimal, bytes_eq, if◌then◌else◌, Option, Some, None}
 use Rattle.std.specs.Io.KnownBytes.{Keeps, Appends}
 use Rattle.geo_outside.specs.Device.{Rose, most_bytes}
 use Rattle.feature_feed.specs.Feed.{FeedView}
 use Rattle.session_text.specs.Status.{status_text}
-use Rattle.session_text.specs.declared.session.Kind.TheVariants.{Asks}
+use Rattle.session_text.specs.declared.session.Kind.{Kind}
 use Rattle.session_text.specs.declared.status.Status.{Status}
 use Rattle.session_text.specs.declared.status.Status.TheVariants.{Done, Usage, ReadFault, WriteFault, Memory}
 use Rattle.query_server.specs.Promise.{EndsAs, IsDecided, IsFront, IsProperFront}
-use Rattle.carmen_cli.specs.TopCall.{asks_for_plain}
+use Rattle.carmen_cli.specs.TopCall.{kind_asked}
 use Rattle.carmen_cli.specs.declared.about.TheConstants.{HELP, VERSION}
 use Rattle.carmen_cli.specs.declared.about.About.{About}
 use Rattle.carmen_cli.specs.declared.about.About.TheVariants.{Help, Version}
@@ -52,12 +52,12 @@ unopened_exit = 9
 
 -- what `carmen` promises of the status that it answers to these words; left, contents: the bytes that its source has left and that its sink has, before and after; feeds: what its feeds show; reads, writes: how many reads and writes have failed
 pub record IsAnsweredAs (words : List (List ℕ)) (left left_after contents contents_after : Option (List ℕ)) (feeds feeds_after : List FeedView) (reads reads_after writes writes_after : ℕ) (status : Status) : Type 0 where
-  pub session : EndsAs most_bytes Asks left left_after contents contents_after feeds feeds_after status
-  pub usage : (status ≡ Usage) ↔ (asks_for_plain words ≡ false)
+  pub session : (kind : Kind) → kind_asked words ≡ Some kind → EndsAs most_bytes kind left left_after contents contents_after feeds feeds_after status
+  pub usage : (status ≡ Usage) ↔ (kind_asked words ≡ None)
   pub untouched : status ≡ Usage → Keeps left left_after × Keeps contents contents_after × (reads_after ≡ reads) × (writes_after ≡ writes) × (feeds_after ≡ feeds)
   pub read_fault : status ≡ ReadFault → Rose reads reads_after
   pub write_fault : status ≡ WriteFault → Rose writes writes_after
-  pub decided : asks_for_plain words ≡ true → ¬ (Rose reads reads_after) → ¬ (Rose writes writes_after) → IsDecided most_bytes Asks (length feeds) left status
+  pub decided : (kind : Kind) → kind_asked words ≡ Some kind → ¬ (Rose reads reads_after) → ¬ (Rose writes writes_after) → IsDecided most_bytes kind (length feeds) left status
   pub later : (reads ≤ reads_after) × (writes ≤ writes_after)
   pub kept : (status ≢ ReadFault → reads_after ≡ reads) × (status ≢ WriteFault → writes_after ≡ writes)
 

@@ -8,14 +8,15 @@ pub const HELP: &str = "\
 carmen: a forward geocoder over layers of places
 
 usage:
-  carmen plain [FEED..] read a session on standard input, and answer it on standard output
-  carmen --help, -h     say this
-  carmen --version, -V  say the version
+  carmen plain [FEED..]   read a session on standard input, and answer it on standard output
+  carmen replay [FEED..]  the same for a session that may also explain and replay queries
+  carmen --help, -h       say this
+  carmen --version, -V    say the version
 
 A FEED is a file of places, which a line `load F L` of the session puts into layer L. The first
 one is feed 0; there may be 16. All are opened before the session is read.
-  json:PATH             a GeoJSON feature on each line
-  csv:PATH              rows of the fields id,text,zxy,score
+  json:PATH               a GeoJSON feature on each line
+  csv:PATH                rows of the fields id,text,zxy,score
 
 docs/FORMAT.md has the lines of a session, their faults and what they are answered with, and
 the form of the feeds.
@@ -31,6 +32,12 @@ examples:
   published 1
   ask 0 0 gen 1 found 1
   context 10000/10000 score 0 0:1@6/31/20[0,1)=10000
+  $ sed 's/ask 0/explain/' york | carmen replay csv:york.csv
+  load 0 0 read 1 bad 0 full 0 end
+  published 1
+  explain gen 1 found 1
+  context 10000/10000 score 0 0:1@6/31/20[0,1)=10000
+  opens 1 cuts 0
 
 exit status, told on standard error where it isn't 0:
   0  the session was read to its end, and all of it is answered

@@ -1,24 +1,24 @@
 //! The top call: the words of a command line, a source, a sink and feeds.
 
-ghost use Rattle.std.specs.Prelude.{◌≡◌, ◌≢◌, ◌↔◌, ◌≤◌, length, map, string_bytes, true, false};
+ghost use Rattle.std.specs.Prelude.{◌≡◌, ◌≢◌, ◌↔◌, ◌≤◌, length, map, string_bytes, Some, None};
 ghost use Rattle.std.specs.Io.KnownBytes.{Keeps};
 ghost use Rattle.geo_outside.specs.Device.{Rose, most_bytes};
 ghost use Rattle.query_server.specs.Promise.{EndsAs, IsDecided};
-ghost use Rattle.session_text.specs.declared.session.Kind.TheVariants.{Asks};
-ghost use Rattle.carmen_cli.specs.TopCall.{asks_for_plain};
+ghost use Rattle.session_text.specs.declared.session.Kind.{Kind};
+ghost use Rattle.carmen_cli.specs.TopCall.{kind_asked};
 
-use crate::words::is_plain;
+use crate::words::kind_asked;
 use feature_feed::feed::Feed;
 use geo_outside::device::{Sink, Source};
 use query_server::run::run_plain;
-use session_text::session::Kind;
 use session_text::status::Status;
 
-/// Reads a session from the source, answers it and writes the answers to the sink, where the words are `plain` and at most
-/// 16 feed words, `json:PATH` or `csv:PATH`. It goes round by round: a round is answered once its `join` or `end` line was
-/// taken, and its text is written before more is read; nothing is read behind the `end` line but what came with its block.
-/// Nothing taken is given back, and nothing written is undone. What is said of bytes and of items holds where the source, the
-/// sink and the feeds tell theirs.
+/// Reads a session from the source, answers it and writes the answers to the sink, where the words are a command, `plain` or
+/// `replay`, and at most 16 feed words, `json:PATH` or `csv:PATH`. In a session of `replay` lines may also `explain` a query,
+/// with how many partials its search opens and cuts, and `replay` one by given events. It goes round by round: a round is
+/// answered once its `join` or `end` line was taken, and its text is written before more is read; nothing is read behind the
+/// `end` line but what came with its block. Nothing taken is given back, and nothing written is undone. What is said of bytes
+/// and of items holds where the source, the sink and the feeds tell theirs.
 ///
 /// A `load` line names a feed by its number, counted from 0 in the order of `feeds`, of which there are fewer than 2^32. What
 /// counts is how many feeds are lent; that they are those of the words is the caller's. The feed is pulled when the line's
@@ -27,7 +27,7 @@ use session_text::status::Status;
 /// with `fault`, and the session goes on; a feed that wants memory ends the call.
 ///
 /// - `Done`: the `end` line was read; what was written is a text of all rounds.
-/// - `Usage`: the words aren't `plain` and at most 16 feed words. Nothing was taken and nothing written, no call has failed,
+/// - `Usage`: the words aren't a command and at most 16 feed words. Nothing was taken and nothing written, no call has failed,
 ///   and the feeds are as before.
 /// - `BadLine`: this line is the first that is refused, for this reason; what was written is a text of the closed rounds.
 /// - `Unended`: the source has nothing left, and no line is refused or `end`; likewise.
@@ -49,22 +49,23 @@ pub fn carmen<R: AllocGlobal, S: Source, K: Sink>(
     feeds: &mut Vec<Box<dyn Feed>>,
 ) -> Status
     requires feeds { length feeds.old.items ≤ 4294967295 }
-    ensures session { EndsAs most_bytes Asks (S.left source.old) (S.left source.new) (K.contents sink.old) (K.contents sink.new)
+    ensures session { (kind : Kind) → kind_asked (map string_bytes words.now) ≡ Some kind
+        → EndsAs most_bytes kind (S.left source.old) (S.left source.new) (K.contents sink.old) (K.contents sink.new)
         (map (λ b. shows b) feeds.old.items) (map (λ b. shows b) feeds.new.items) result }
-    ensures usage { (result ≡ Status.Usage) ↔ (asks_for_plain (map string_bytes words.now) ≡ false) }
+    ensures usage { (result ≡ Status.Usage) ↔ (kind_asked (map string_bytes words.now) ≡ None) }
     ensures untouched { result ≡ Status.Usage → Keeps (S.left source.old) (S.left source.new) × Keeps (K.contents sink.old) (K.contents sink.new)
         × (S.faults source.new ≡ S.faults source.old) × (K.faults sink.new ≡ K.faults sink.old)
         × (map (λ b. shows b) feeds.new.items ≡ map (λ b. shows b) feeds.old.items) }
     ensures read_fault { result ≡ Status.ReadFault → Rose (S.faults source.old) (S.faults source.new) }
     ensures write_fault { result ≡ Status.WriteFault → Rose (K.faults sink.old) (K.faults sink.new) }
-    ensures decided { asks_for_plain (map string_bytes words.now) ≡ true
+    ensures decided { (kind : Kind) → kind_asked (map string_bytes words.now) ≡ Some kind
         → ¬ (Rose (S.faults source.old) (S.faults source.new)) → ¬ (Rose (K.faults sink.old) (K.faults sink.new))
-        → IsDecided most_bytes Asks (length feeds.old.items) (S.left source.old) result }
+        → IsDecided most_bytes kind (length feeds.old.items) (S.left source.old) result }
     ensures later { (S.faults source.old ≤ S.faults source.new) × (K.faults sink.old ≤ K.faults sink.new) }
     ensures kept { (result ≢ Status.ReadFault → S.faults source.new ≡ S.faults source.old) × (result ≢ Status.WriteFault → K.faults sink.new ≡ K.faults sink.old) }
 {
-    if !is_plain(words) {
+    let Some(kind) = kind_asked(words) else {
         return Status::Usage;
-    }
-    run_plain(rt.alloc(), Kind::Asks, source, sink, feeds)
+    };
+    run_plain(rt.alloc(), kind, source, sink, feeds)
 }

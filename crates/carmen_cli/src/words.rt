@@ -2,8 +2,9 @@
 
 ghost use Rattle.std.specs.Prelude.{◌≡◌, ◌≤◌, map, string_bytes, length, IfOk};
 ghost use Rattle.std.specs.List.{list_all, filter_map};
-ghost use Rattle.carmen_cli.specs.TopCall.{file_at, feed_word, is_feed_word, asks_for_plain, files_of};
+ghost use Rattle.carmen_cli.specs.TopCall.{file_at, feed_word, is_feed_word, kind_named, kind_asked, files_of};
 
+use session_text::session::Kind;
 use std::alloc::{AllocError, Global};
 use std::marker::Model;
 
@@ -66,20 +67,35 @@ fn are_feed_words(words: &[String]) -> bool
     words.iter().all(|word| feed_word(word.as_str()).is_some())
 }
 
-/// The words are `plain` and at most 16 words behind it, each of which names a file.
-pub fn is_plain(words: &[String]) -> bool
-    ensures { result ≡ asks_for_plain (map string_bytes words.now) }
+/// The kind of session that a command reads: `plain` one whose lines ask, `replay` one whose lines also explain and replay;
+/// None for any other word.
+fn kind_named(word: &str) -> Option<Kind>
+    ensures { result ≡ kind_named word.now }
+{
+    if word == "plain" {
+        return Some(Kind::Asks);
+    }
+    if word == "replay" {
+        return Some(Kind::Replays);
+    }
+    None
+}
+
+/// The kind of session that the words ask for: they are a command, and at most 16 words behind it, each of which names a
+/// file; None where the words are refused.
+pub fn kind_asked(words: &[String]) -> Option<Kind>
+    ensures { result ≡ kind_asked (map string_bytes words.now) }
 {
     let Some((first, feeds)) = words.split_first() else {
-        return false;
+        return None;
     };
-    if first.as_str() != "plain" {
-        return false;
-    }
     if feeds.len() > MOST_FEEDS {
-        return false;
+        return None;
     }
-    are_feed_words(feeds)
+    if !are_feed_words(feeds) {
+        return None;
+    }
+    kind_named(first.as_str())
 }
 
 /// The files that these words name, in order.
@@ -92,12 +108,12 @@ fn files_named<'a>(alloc: Global, words: &'a [String]) -> Result<Vec<FeedFile<'a
         .collect(alloc)
 }
 
-/// The files of the feeds, in order: those that the words behind `plain` name; none where the words are refused.
+/// The files of the feeds, in order: those that the words behind the command name; none where the words are refused.
 pub fn feed_files<'a>(alloc: Global, words: &'a [String]) -> Result<Vec<FeedFile<'a>>, AllocError>
     ensures files { IfOk result (λ files. files.items ≡ files_of (map string_bytes words.now)) }
     ensures few { IfOk result (λ files. length files.items ≤ 16) }
 {
-    if !is_plain(words) {
+    if kind_asked(words).is_none() {
         return Ok(Vec::new(alloc));
     }
     files_named(alloc, &words[1..])

@@ -1,6 +1,5 @@
 use Rattle.std.proofs.Common.{ℕ, List, map, ap, sym, subst, string_bytes}
 use Rattle.std.proofs.lemmas.List.{length-map}
-use Rattle.session_text.specs.declared.session.Kind.TheVariants.{Asks}
 use Rattle.geo_outside.specs.Device.{most_bytes}
 use Rattle.query_server.specs.Promise.{IsDecided}
 use Rattle.carmen_cli.specs.Program.{IsTold}
@@ -20,6 +19,6 @@ returns g c = (
     | in-None w ↦
         let e = w.carmen-status.ensures in
         answered_run (g.S.Source.left) (g.S.Source.faults) (g.K.Sink.contents) (g.K.Sink.faults) _ (map string_bytes c.args.words.now) c.args.source.now _ _ c.args.sink.now _ _ _ _ _ _ _ w.source-is w.sink-is (ap (λ f. f.items) w.feeds-is) w.status-is w.in-None.ensures
-        (record { session = e.session; usage = e.usage; untouched = e.untouched; read_fault = e.read_fault; write_fault = e.write_fault; decided = λ yes reads writes. subst (λ (n : ℕ). IsDecided most_bytes Asks n (g.S.Source.left c.args.source.now) w.carmen-status.result) (sym (length-map c.args.feeds.now.items _)) (e.decided yes reads writes); later = e.later; kept = e.kept })
+        (record { session = e.session; usage = e.usage; untouched = e.untouched; read_fault = e.read_fault; write_fault = e.write_fault; decided = λ kind yes reads writes. subst (λ (n : ℕ). IsDecided most_bytes kind n (g.S.Source.left c.args.source.now) w.carmen-status.result) (sym (length-map c.args.feeds.now.items _)) (e.decided kind yes reads writes); later = e.later; kept = e.kept })
   ],
 )
