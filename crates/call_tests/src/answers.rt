@@ -142,7 +142,7 @@ fn in_one_language(rt: &impl Abort, alloc: Global, f: &Feature, name: &str) -> F
 }
 
 /// The layers `country` and `place`, the second of which replaces `street`, and two languages.
-fn two_layers(rt: &impl Abort, alloc: Global) -> Head {
+pub fn two_layers(rt: &impl Abort, alloc: Global) -> Head {
     let mut layers = Layers::new(alloc);
     let name = Text::of(alloc, "country").expect(rt, "memory");
     layers.push(Layer::new(alloc, name, 6)).expect(rt, "memory");
@@ -152,7 +152,7 @@ fn two_layers(rt: &impl Abort, alloc: Global) -> Head {
 }
 
 /// Features and their layers in that head: on one tile, and 60 towns of one name on six tiles each.
-fn table_of(rt: &impl Abort, alloc: Global, head: &Head) -> FeatureTable
+pub fn table_of(rt: &impl Abort, alloc: Global, head: &Head) -> FeatureTable
     ensures { IsOfHead head.now result }
 {
     assert_eq!(rt; head.layers.len(), 2);

@@ -21,7 +21,7 @@ use phrase_match::matching::matches;
 use phrase_match::plain_rows::PlainRows;
 use plain_answer::job_answer::answer_job;
 use search_core::kept_rows::KeptRows;
-use search_core::one::search_alone;
+use search_core::one::{SearchResult, search_alone};
 use std::alloc::Global;
 use std::process::Abort;
 use std::sync::Arc;
@@ -117,10 +117,14 @@ pub fn search_reply(
             let plain = PlainRows::new(alloc, generation, query);
             let pieces = job.pieces.as_slice().len();
             let mut rows = KeptRows::new(alloc, plain, pieces).expect(rt, "memory");
-            let found = search_alone(alloc, &job, &mut rows).expect(rt, "memory");
+            let SearchResult {
+                top,
+                opens: _,
+                cuts: _,
+            } = search_alone(alloc, &job, &mut rows).expect(rt, "memory");
             Reply::Found {
                 generation: number,
-                answer: found.top.answer(job.tokens),
+                answer: top.into_answer(job.tokens),
             }
         }
         Err(Refused::Fault(Grids { total, limit })) => Reply::Grids {

@@ -28,6 +28,8 @@ mod queries;
 #[cfg(test)]
 mod replies;
 #[cfg(test)]
+mod schedules;
+#[cfg(test)]
 mod searches;
 #[cfg(test)]
 mod sessions;

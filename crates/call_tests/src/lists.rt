@@ -44,7 +44,7 @@ fn forty_of_the_targets_of_two_lists_are_left(rt: HostRuntime) {
     list.merge(&other);
     let reply = Reply::Found {
         generation: 1,
-        answer: list.answer(2),
+        answer: list.into_answer(2),
     };
     let mut out = Vec::new(alloc);
     write_reply(&mut out, 0, 0, &reply).expect(&rt, "memory");
@@ -65,9 +65,11 @@ const FORTY: &str = "ask 0 0 gen 1 found 40\n";
 
 /// The text of a list, as the answer to a query of one token.
 fn text_of(rt: &impl Abort, alloc: Global, list: &TopList) -> Vec<u8> {
+    let mut copy = TopList::new(alloc).expect(rt, "memory");
+    copy.merge(list);
     let reply = Reply::Found {
         generation: 1,
-        answer: list.answer(1),
+        answer: copy.into_answer(1),
     };
     let mut out = Vec::new(alloc);
     write_reply(&mut out, 0, 0, &reply).expect(rt, "memory");

@@ -1,19 +1,20 @@
 //! The texts of answers.
 
 use feature_reader::taker::{PutFault, Taken};
-use geo_base::answer::{Answer, Contexts};
 use geo_base::context::Context;
 use geo_base::link::Link;
 use geo_base::tile::Tile;
 use geo_query::query::QueryFault;
 use geo_query::reply::Reply;
 use session_text::write::{write_drop, write_limit, write_published, write_put, write_reply};
+use std::alloc::Global;
 use std::process::Abort;
+use top_list::TopList;
 
 /// The reply of a city and a street.
-fn found(rt: &impl Abort) -> Reply {
-    let mut contexts = Contexts::new();
-    contexts.push(Context::new(Link {
+fn found(rt: &impl Abort, alloc: Global) -> Reply {
+    let mut list = TopList::new(alloc).expect(rt, "memory");
+    list.offer(&Context::new(Link {
         tile: Tile::new(6, 32, 32).expect(rt, "a tile"),
         id: 7,
         value: 20_000,
@@ -22,7 +23,7 @@ fn found(rt: &impl Abort) -> Reply {
         to: 2,
         score: 9,
     }));
-    contexts.push(Context::new(Link {
+    list.offer(&Context::new(Link {
         tile: Tile::new(16, 65_535, 0).expect(rt, "a tile"),
         id: 67_108_863,
         value: 9600,
@@ -33,10 +34,7 @@ fn found(rt: &impl Abort) -> Reply {
     }));
     Reply::Found {
         generation: 4,
-        answer: Answer {
-            tokens: 2,
-            contexts,
-        },
+        answer: list.into_answer(2),
     }
 }
 
@@ -82,7 +80,7 @@ fn each_answer_has_its_text_behind_the_others(rt: HostRuntime) {
         limit: 10,
     };
     for reply in [
-        found(&rt),
+        found(&rt, rt.alloc()),
         Reply::Unreadable(QueryFault::Empty),
         grids,
         Reply::Memory,

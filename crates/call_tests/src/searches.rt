@@ -102,7 +102,7 @@ pub fn replayed(
                 Ok(top) => {
                     let found = Reply::Found {
                         generation: number,
-                        answer: top.answer(job.tokens),
+                        answer: top.into_answer(job.tokens),
                     };
                     Ok(is_text_of_search(rt, alloc, generation, query, &found))
                 }

@@ -9,8 +9,9 @@ use std::alloc::Global;
 use std::process::Abort;
 
 /// Appends the lines of a round.
-fn push_round(rt: &impl Abort, out: &mut String, round: &Round) {
-    for line in round.as_slice() {
+fn push_round(rt: &impl Abort, out: &mut String, round: Round) {
+    let mut left = round;
+    while let Some(line) = left.next() {
         match line {
             BodyLine::Put { layer, feature } => write!(
                 out,
@@ -26,6 +27,15 @@ fn push_round(rt: &impl Abort, out: &mut String, round: &Round) {
             BodyLine::Ask { lane, text } => write!(out, "ask {lane} {}; ", text.as_str()).expect(
                 rt, "memory",
             ),
+            BodyLine::Explain { text } => write!(out, "explain {}; ", text.as_str()).expect(
+                rt, "memory",
+            ),
+            BodyLine::Replay { events, text } => write!(
+                out,
+                "replay {} {}; ",
+                events.len(),
+                text.as_str()
+            ).expect(rt, "memory"),
         }
     }
 }
@@ -44,12 +54,12 @@ fn push_line(
     match session.line(bytes) {
         Ok(Step::More) => true,
         Ok(Step::Ready(round)) => {
-            push_round(rt, out, &round);
+            push_round(rt, out, round);
             write!(out, "joined; ").expect(rt, "memory");
             true
         }
         Ok(Step::Last(round)) => {
-            push_round(rt, out, &round);
+            push_round(rt, out, round);
             write!(out, "ended").expect(rt, "memory");
             true
         }

@@ -6,6 +6,8 @@ mod devices;
 #[cfg(test)]
 mod feeds;
 #[cfg(test)]
+mod replays;
+#[cfg(test)]
 mod rows;
 #[cfg(test)]
 mod runs;

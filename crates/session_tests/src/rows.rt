@@ -28,7 +28,7 @@ pub const BASE: &str =
 /// What is written for them.
 pub const BASE_OUT: &str = "put 0 1 new\nput 2 2 new\npublished 1\n";
 
-pub const ROWS: [Row; 40] = [
+pub const ROWS: [Row; 42] = [
     Row {
         name: "a city and its country",
         session: &[(BASE, 0, 0), ("ask 0 new york usa\nend\n", 0, 0)],
@@ -617,6 +617,24 @@ pub const ROWS: [Row; 40] = [
         ],
         status: Status::Done,
         text: &[("put 0 1 rows\n", 0, 0)],
+    },
+    Row {
+        name: "an explained query where none may stand",
+        session: &[(BASE, 0, 0), ("explain usa\nend\n", 0, 0)],
+        status: Status::BadLine {
+            line: 9,
+            why: Why::Word,
+        },
+        text: &[],
+    },
+    Row {
+        name: "a replayed query where none may stand",
+        session: &[(BASE, 0, 0), ("replay ; usa\nend\n", 0, 0)],
+        status: Status::BadLine {
+            line: 9,
+            why: Why::Word,
+        },
+        text: &[],
     },
 ];
 

@@ -20,7 +20,7 @@ struct Run {
     reads: bool,
 }
 
-const RUNS: [Run; 16] = [
+const RUNS: [Run; 18] = [
     Run {
         words: &["--help"],
         more: "",
@@ -126,6 +126,22 @@ const RUNS: [Run; 16] = [
         reads: true,
     },
     Run {
+        words: &["replay"],
+        more: "end\n",
+        writes: &[],
+        text: BASE_OUT,
+        told: "",
+        reads: true,
+    },
+    Run {
+        words: &["replay", "x"],
+        more: "",
+        writes: &[],
+        text: "",
+        told: "carmen: usage\n",
+        reads: false,
+    },
+    Run {
         words: &["plain"],
         more: "",
         writes: &[],
@@ -180,9 +196,10 @@ fn a_run_tells_what_its_words_ask_for_and_how_it_ends(rt: HostRuntime) -> Result
 }
 
 /// Words, and the files of feeds that they name.
-const WORDS: [(&[&str], &[(FeedFormat, &str)]); 6] = [
+const WORDS: [(&[&str], &[(FeedFormat, &str)]); 7] = [
     (&["plain"], &[]),
     (&["plain", "csv:a"], &[(FeedFormat::Csv, "a")]),
+    (&["replay", "csv:a"], &[(FeedFormat::Csv, "a")]),
     (
         &["plain", "json:b c/d", "csv:csv:e", "json:ü"],
         &[

@@ -1,6 +1,7 @@
 //! Whole sessions over devices in memory.
 
 use crate::devices::{Comments, CountingSink, FullSink, SlowSink, SlowSource, WatchingSource};
+use crate::replays::REPLAYS;
 use crate::rows::{BASE, BASE_OUT, ROWS, text_of};
 use carmen_cli::top::carmen;
 use geo_outside::device::Source;
@@ -27,8 +28,19 @@ fn run<R: AllocGlobal>(
     reads: &[u64],
     writes: &[u64],
 ) -> Result<(Status, MemorySink), Fail> {
+    run_command(rt, "plain", session, reads, writes)
+}
+
+/// The same by this command.
+fn run_command<R: AllocGlobal>(
+    rt: &R,
+    command: &str,
+    session: Vec<u8>,
+    reads: &[u64],
+    writes: &[u64],
+) -> Result<(Status, MemorySink), Fail> {
     let alloc = rt.alloc();
-    let words = words_of(alloc, &["plain"])?;
+    let words = words_of(alloc, &[command])?;
     let mut source = MemorySource::new(session, reads.to_vec(alloc)?);
     let mut sink = MemorySink::new(alloc, writes.to_vec(alloc)?);
     let mut no_feeds = Vec::new(rt.alloc());
@@ -57,6 +69,18 @@ fn sessions_end_and_are_answered_as_their_bytes_say(rt: HostRuntime) -> Result<(
     for row in ROWS.as_slice() {
         let (name, text) = (row.name, text_of(alloc, row.text)?);
         let (status, sink) = run(&rt, text_of(alloc, row.session)?, &[], &[])?;
+        assert!(rt; status.is(&row.status), "{name}");
+        assert!(rt; sink.bytes() == text.as_slice(), "{name}");
+    }
+    Ok(())
+}
+
+#[test]
+fn queries_are_explained_and_replayed(rt: HostRuntime) -> Result<(), Fail> {
+    let alloc = rt.alloc();
+    for row in REPLAYS.as_slice() {
+        let (name, text) = (row.name, text_of(alloc, row.text)?);
+        let (status, sink) = run_command(&rt, "replay", text_of(alloc, row.session)?, &[], &[])?;
         assert!(rt; status.is(&row.status), "{name}");
         assert!(rt; sink.bytes() == text.as_slice(), "{name}");
     }
