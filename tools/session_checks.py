@@ -9,9 +9,10 @@ import unicodedata
 from feed_checks import (
     CODE, IDS, MOST_FEEDS, MOST_ITEMS, Feature, feature_of_item, feature_of_text, feed_of, items_of, number_of,
 )
+from search_checks import MOST_FOUND, VERDICT, counts_fault, events_of, found_fault, verdict_fault
 
 LONGEST = 1_048_576  # the most bytes of a line
-MOST_ASKS = 4096  # of a round
+MOST_ASKS = 4096  # lines of a round that ask
 MOST_LAYERS = 16
 MOST_LANGS = 127
 MOST_FEATURES = 262_144
@@ -20,6 +21,8 @@ MOST_LIMIT = 8_388_608
 USUAL_LIMIT = 2_000_000
 
 BODY = {"put", "drop", "load", "limit", "publish", "ask", "join", "end"}
+SEARCHES = {"explain", "replay"}
+WORDS = {"plain": BODY, "replay": BODY | SEARCHES}  # of lines of the body, by the command
 LAYER_FAULTS = [
     "7 Layer 1 Json", "7 Layer 2 Name", "7 Layer 3 Zoom", "7 Layer 4 Falling", "7 Layer 5 Stack", "7 Layer 6 Tokens",
     "7 Layer 7 TooMany", "7 Layer 8 ScoreMax",
@@ -29,6 +32,7 @@ NO_END = "no line `end`"
 REFUSED = re.compile(r"carmen: line ([1-9]\d*): (\d.*)\n")
 ANSWER = re.compile(r"gen (\d+) found (\d+)|gen (\d+) grids (\d+) (\d+)|unreadable (\d \w+)")
 CONTEXT = re.compile(r"context (\d+)/(\d+) score (\d+)((?: \d+:\d+@\d+/\d+/\d+\[\d+,\d+\)=\d+)+)")
+SEARCHED = re.compile(r"^(?:(?:explain|replay) gen \d+ (.+)|(opens .+))$", re.MULTILINE)
 LOADED = re.compile(r"load (\d+) (\d+) read (\d+) bad (\d+) full (\d+) (end|fault|limit)")
 LINK = re.compile(r" (\d+):(\d+)@(\d+)/(\d+)/(\d+)\[(\d+),(\d+)\)=(\d+)")
 
@@ -49,11 +53,20 @@ def token_count(text):
     return sum(inside for inside, _ in itertools.groupby(kept, lambda c: unicodedata.category(c)[0] in "LMN"))
 
 
-class Reading:
-    """Where a session that has so many feeds stands between two of its lines, and what those of its closed rounds were."""
+def tokens_and_fault(line):
+    """How many tokens the text of a query has, and the fault that it has by its length or by these, or None."""
+    text = line.partition("|")[2] if "|" in line else line
+    tokens = token_count(text)
+    return tokens, "3 Long" if len(text) > 256 else "4 Empty" if tokens == 0 else "5 Tokens" if tokens > 20 else None
 
-    def __init__(self, feeds):
+
+class Reading:
+    """Where a session that has so many feeds, and these words of lines of the body, stands between two of its lines, and what
+    those of its closed rounds were."""
+
+    def __init__(self, feeds, words):
         self.feeds = feeds
+        self.words = words
         self.named = set()
         self.place = "title"
         self.zooms = []
@@ -78,7 +91,7 @@ class Reading:
             return self.langs(rest)
         if word == "layer" and self.place != "body":
             return (None if len(self.zooms) == MOST_LAYERS else ("layer", rest)), LAYER_FAULTS
-        if word not in BODY or not self.zooms:
+        if word not in self.words or not self.zooms:
             return None, ["4 Word"]
         return self.body_line(word, rest)
 
@@ -95,6 +108,10 @@ class Reading:
             if n is None:
                 return None, ["5 Form"]
             return self.put(n, text) if word == "put" else self.ask(n, text)
+        if word == "explain":
+            return self.asking(word, rest)
+        if word == "replay":
+            return self.replay(*rest.partition(";"))
         numbers = numbers_of(rest)
         wanted = {"drop": 2, "load": 2, "limit": 1}.get(word, 0)
         if numbers is None or len(numbers) != wanted:
@@ -121,11 +138,14 @@ class Reading:
         return (("put", n, feature), []) if isinstance(feature, Feature) else (None, [f"10 Feature {feature}"])
 
     def ask(self, n, text):
-        if n > 7:
-            return None, ["8 Number"]
-        if self.asks == MOST_ASKS:
-            return None, ["11 Asks"]
-        return ("ask", n, text), []
+        return self.asking("ask", n, text) if n <= 7 else (None, ["8 Number"])
+
+    def replay(self, fields, semicolon, text):
+        events = events_of(fields)
+        return self.asking("replay", events, text) if semicolon and events is not None else (None, ["5 Form"])
+
+    def asking(self, *item):
+        return (item, []) if self.asks < MOST_ASKS else (None, ["11 Asks"])
 
     def take(self, item):
         """Takes what an accepted line says."""
@@ -143,7 +163,7 @@ class Reading:
                 self.open, self.asks = [], 0
             else:
                 self.open.append(item)
-                self.asks += item[0] == "ask"
+                self.asks += item[0] == "ask" or item[0] in SEARCHES
                 if item[0] == "load":
                     self.named.add(item[1])
 
@@ -189,6 +209,7 @@ class Standing:
         self.published = set()
         self.published_limit = USUAL_LIMIT
         self.asks = [0] * 8
+        self.told = {}  # of the generation, by the words of lines that ask
 
     def stands(self, at, yes, no):
         """The words that may be told of a feature: one where it stands, one where it doesn't."""
@@ -266,18 +287,22 @@ class Standing:
         self.number += 1
         self.published = set(self.features)
         self.published_limit = self.limit
+        self.told = {}
         return line == f"published {self.number}"
 
-    def answer(self, lane, text, line):
-        """How many contexts follow the line, and of how many tokens; or None, where it isn't the line of the ask."""
-        front = f"ask {lane} {self.asks[lane]} "
-        found = ANSWER.fullmatch(line.removeprefix(front)) if line.startswith(front) else None
-        self.asks[lane] += 1
+    def front(self, word, *fields):
+        """What stands before the reply to a line that asks."""
+        if word != "ask":
+            return f"{word} "
+        self.asks[fields[0]] += 1
+        return f"ask {fields[0]} {self.asks[fields[0]] - 1} "
+
+    def answer(self, text, said):
+        """How many contexts follow a reply, and of how many tokens; or None, where it is none to this text."""
+        found = ANSWER.fullmatch(said)
         if not found:
             return None
-        text = text.partition("|")[2] if "|" in text else text
-        tokens = token_count(text)
-        unreadable = "3 Long" if len(text) > 256 else "4 Empty" if tokens == 0 else "5 Tokens" if tokens > 20 else None
+        tokens, unreadable = tokens_and_fault(text)
         if found.group(6):
             return (0, tokens) if found.group(6) in (unreadable, "1 Option", "2 Box") else None
         if unreadable or int(found.group(1) or found.group(3)) != self.number:
@@ -285,7 +310,28 @@ class Standing:
         if found.group(3):
             return (0, tokens) if int(found.group(4)) > int(found.group(5)) == self.published_limit else None
         contexts = int(found.group(2))
-        return (contexts, tokens) if contexts <= min(40, 40 * len(self.published)) else None
+        return (contexts, tokens) if contexts <= min(MOST_FOUND, MOST_FOUND * len(self.published)) else None
+
+    def verdict_fault(self, events, text, verdict):
+        """What is wrong with a verdict on a search by events, or None."""
+        tokens, unreadable = tokens_and_fault(text)
+        if unreadable or int(verdict.group(1)) != self.number:
+            return f"{verdict.group()!r} for {text[:120]!r}"
+        return verdict_fault(events, self.layers(), tokens, self.may_fill(), verdict)
+
+    def layers(self):
+        """How many layers have published features."""
+        return len({at for at, _ in self.published})
+
+    def may_fill(self):
+        """An answer may be full."""
+        return len(self.published) >= MOST_FOUND
+
+    def differs(self, text, told):
+        """Something else was told of a query before; or None."""
+        text = text.strip(" ") if len(text) <= 256 else text  # spaces around a query that isn't long don't matter
+        differ = [key for key, said in told.items() if self.told.setdefault((text, key), said) != said]
+        return f"another {differ[0][:120]!r} of {text[:120]!r} than before" if differ else None
 
     def is_link(self, tokens, link):
         """The link is of a published feature, on a tile of its layer's zoom, with a run of so many tokens and a value of it."""
@@ -331,6 +377,33 @@ def contexts_fault(standing, tokens, lines):
     return None
 
 
+def reply_fault(standing, word, fields, lines):
+    """Takes what is told of a line that asks from the lines, and says what is wrong with it, or None."""
+    *others, text = fields
+    front = standing.front(word, *others)
+    line = lines.popleft() if lines else ""
+    said = line.removeprefix(front) if line.startswith(front) else ""
+    verdict = VERDICT.fullmatch(said) if word == "replay" else None
+    if verdict:
+        fault = standing.verdict_fault(others[0], text, verdict)
+        return fault or standing.differs(text, {"reply": "found", "replay " + " ".join(others[0]): said})
+    answer = standing.answer(text, said)
+    if answer is None or answer[0] > len(lines):
+        return f"for {word} {fields}"[:200] + f": {line[:120]!r}"
+    if " found " not in said:
+        return standing.differs(text, {"reply": said})
+    contexts = [lines.popleft() for _ in range(answer[0])]
+    fault = contexts_fault(standing, answer[1], contexts)
+    told = {"reply": "found", "contexts": contexts}
+    if word == "explain":
+        told["counts"] = lines.popleft() if lines else ""
+        fault = fault or counts_fault(contexts, standing.layers(), answer[1], told["counts"])
+    if word == "replay":
+        told["replay " + " ".join(others[0])] = said
+        fault = fault or found_fault(others[0], contexts, standing.may_fill())
+    return fault or standing.differs(text, told)
+
+
 def output_fault(reading, feeds, output):
     """What is wrong with the text of the closed rounds, or None."""
     if output and not output.endswith("\n"):
@@ -344,50 +417,54 @@ def output_fault(reading, feeds, output):
         "publish": standing.publish,
     }
     for word, *fields in reading.closed:
-        line = lines.popleft() if lines else ""
         if word in steps:
-            if not steps[word](*fields, line):
-                return f"for {word} {fields}: {line[:120]!r}"
-            continue
-        answer = standing.answer(*fields, line)
-        if answer is None or answer[0] > len(lines):
-            return f"for ask {fields}"[:200] + f": {line[:120]!r}"
-        fault = contexts_fault(standing, answer[1], [lines.popleft() for _ in range(answer[0])])
+            line = lines.popleft() if lines else ""
+            fault = None if steps[word](*fields, line) else f"for {word} {fields}: {line[:120]!r}"
+        else:
+            fault = reply_fault(standing, word, fields, lines)
         if fault:
             return fault
     return f"more lines: {lines[0][:120]!r}" if lines else None
 
 
-def session_fault(raw, feeds, status, told):
-    """What is wrong with the status of a run on these bytes with so many feeds and with its text, or None; and the reading of
-    the closed rounds."""
-    reading = Reading(feeds)
+def session_fault(thrown, status, told):
+    """What is wrong with the status of a run on a session and with its text, or None; and the reading of the closed rounds."""
+    reading = Reading(len(thrown.words), WORDS[thrown.command])
     if status == 3 and told == "carmen: no end line\n":
-        fault = walked(reading, raw, None)
+        fault = walked(reading, thrown.session, None)
         return (None if fault == NO_END else fault or "status 3, and there is a line `end`"), reading
     if status == 0 and not told:
-        return walked(reading, raw, None), reading
+        return walked(reading, thrown.session, None), reading
     refused = REFUSED.fullmatch(told)
     if status == 2 and refused:
-        return walked(reading, raw, (int(refused.group(1)), refused.group(2))), reading
+        return walked(reading, thrown.session, (int(refused.group(1)), refused.group(2))), reading
     return f"status {status} with {told[:120]!r} on standard error", reading
 
 
-def words_end(words, files):
-    """The status and the text of a run that ends before it reads a session, by its words after `plain` and the files that
-    are there, or None."""
-    feeds = list(map(feed_of, words))
-    if None in feeds or len(feeds) > MOST_FEEDS:
+def words_end(thrown):
+    """The status and the text of a run that ends before it reads a session, by its words and the files that are there, or
+    None."""
+    feeds = list(map(feed_of, thrown.words))
+    if thrown.command not in WORDS or None in feeds or len(feeds) > MOST_FEEDS:
         return 1, "carmen: usage\n"
-    missing = [n for n, (_, path) in enumerate(feeds) if path not in files]
+    missing = [n for n, (_, path) in enumerate(feeds) if path not in thrown.files]
     return (9, f"carmen: feed {missing[0]} cannot be opened\n") if missing else None
+
+
+def told_fault(thrown, output):
+    """What is told of the searches of an input isn't what is known of it; or None."""
+    told = [some or counts for some, counts in SEARCHED.findall(output)]
+    if thrown.told is None or told == thrown.told:
+        return None
+    some, known = next(pair for pair in itertools.zip_longest(told, thrown.told) if pair[0] != pair[1])
+    return f"of a search {some!r} is told, and not {known!r}"
 
 
 def run_fault(thrown, status, output, told):
     """What is wrong with the status of a run on an input, and with what it wrote, or None."""
-    end = words_end(thrown.words, thrown.files)
+    end = words_end(thrown)
     if end:
         return None if (status, told, output) == (*end, "") else f"status {status} with {told[:120]!r}, where it is {end}"
-    fault, reading = session_fault(thrown.session, len(thrown.words), status, told)
+    fault, reading = session_fault(thrown, status, told)
     feeds = [(kind, thrown.files[path]) for kind, path in map(feed_of, thrown.words)]
-    return fault or output_fault(reading, feeds, output)
+    return fault or output_fault(reading, feeds, output) or told_fault(thrown, output)

@@ -10,10 +10,14 @@ from thrown_features import (
     ESCAPES, NAMES, as_bytes, change_bytes, change_feature, digits, feature, gap, number, stock,
 )
 from thrown_feeds import NONE, broken_words, feeds, many_items, rows_file
+from thrown_searches import broken_line, change_search, events, played_lines, replay_line, search_line
 
-# The bytes of a session, the words after `plain`, the files that they name (None is a folder), and whether the session has to
-# be accepted.
-Thrown = collections.namedtuple("Thrown", "session words files in_order")
+# The bytes of a session, the command, the words after it, the files that they name (None is a folder), whether the session
+# has to be accepted, and what its lines that explain and replay are told, which is None where that isn't known.
+Thrown = collections.namedtuple("Thrown", "session command words files in_order told", defaults=[None])
+
+COMMANDS = ["plain", "plain", "plain", "replay", "replay"]  # (searches that are played are for `replay` alone)
+NO_COMMANDS = ["", "Plain", "REPLAY", "replay ", " plain", "replays", "explain", "ask", "csv:0", b"replay\xff", "replay plain"]
 
 WORDS = [
     "nowhere", "Z9", "saint", "petersburg", "w" * 60, "rio-de-janeiro", "o'hare", "end", "ask", "publish", "q", "7",
@@ -40,8 +44,14 @@ LINES = SKIPPED + [
     "limit 9999999999", "limit 1 1", "limit x", "limit -1", "limit 2 \r",
     "load", "load 0 0", "load 0 0", "load 1 0", "load 0 1", "load 2 0", "load 0 16", "load 16 0", "load 0", "load 0 0 0",
     "load 00 00", "load  0  0 ", "load x 0", "load 0 x", "load 0 9999999999", "load 9999999999 0", "load 99999999999 0",
-    "load 00000000000 0", "load 0\t0", "load -0 0", "load 9 9", "explain a", "explain", "replay ; a",
-    "replay c0 ; a", "serve", "bake", "fly",
+    "load 00000000000 0", "load 0\t0", "load -0 0", "load 9 9", "serve", "bake", "fly",
+    "explain", "explain ", "explain  ", "explain a", "explain  a ", "explain a\r", "explain 0 a", "explain ; a", "explain\ta",
+    "explain auto=0 | a", "explain box=1/1/0/0/0|a", "explain |", "explain \u00e9", "explain;a", "Explain a", "explains a",
+    "replay", "replay ", "replay  ", "replay;", "replay;a", "replay; a", "replay ;", "replay ; ", "replay ; a", "replay  ;a ",
+    "replay ; a ; b", "replay ;;a", "replay ;|a", "replay ;auto=0|a", "replay ; lang=en | a\r", "replay a", "replay | ; a",
+    "replay c0 ; a", "replay c0;a", "replay c7 o7;a", "replay c8 ; a", "replay c0 c ; a", "replay c0 x0 ; a", "replay c00 ; a",
+    "replay  l0   r7 ; a", "replay c0\t; a", "replay \tc0 ; a", "replay c0o0 ; a", "replay C0 ; a", "replay 0c ; a",
+    "replay \u00e9 ; a", "replay ; \u00e9", "replay c0 a", "replay\tc0 ; a", "Replay ; a", "replay# ; a", "replay c0 ; c0 ; a",
     "ask", "ask ", "ask 0", "ask 0 ", "ask 0  ", "ask 00 a", "ask 7 a ", "ask 8 a", "ask x a", "ask  0 a", "ask 0\ta",
     "ask 0000000007 a", "ask 00000000007 a", "ask 0 \u00e9", "ask 8 \u00e9", "ask x \u00e9", "ask 9 lang=en | a",
     "ask 0 lang=en | a", "ask 0 lang= | a", "ask 0 lang=en a", "ask 0 lang | a", "ask 0 | lang=en", "ask 0 auto=0 |a",
@@ -61,6 +71,10 @@ FILLED = [  # which lines of it a filled line stands for, and what is filled
     (2, 3, 'put 0 {"id":1,"properties":{"carmen:text":"', "a ", '","carmen:zxy":["6/0/0"]}}'),
     (2, 3, 'put 0 {"id":1,"properties":{"carmen:text":"', "a,", '","carmen:zxy":["6/0/0"]}}'),
     (3, 4, "publish", " ", ""), (4, 5, "ask 0 ", "a ", ""), (5, 6, "end", " ", ""), (6, 6, "#", "#", ""),
+]
+FILLED_SEARCHES = [
+    (4, 5, "explain ", "a ", ""), (4, 5, "replay ;", "a ", ""), (4, 5, "replay ", " ", ";a"), (4, 5, "replay", " r7", " ;a"),
+    (4, 5, "replay ", "c0 ", "; a"), (4, 5, "replay ", "c0 ", "; b"), (4, 5, "replay c0 o0", " l0", "  ;a"),
 ]
 
 
@@ -111,14 +125,20 @@ def query(rng, most, of):
     return " ".join(options) + rng.choice(["|", " | "]) + text if options or rng.random() < 0.1 else text
 
 
-def body_line(rng, zooms, of):
-    """A line of the body."""
+def asking_line(rng, command, text):
+    """A line of this command that asks."""
+    if command == "replay" and rng.random() < 0.7:
+        return search_line(rng, text)
+    return "ask" + gap(rng) + digits(rng, rng.choice([0, 0, 1, 7])) + " " + text
+
+
+def body_line(rng, command, zooms, of, texts):
+    """A line of the body, which asks one of these queries where it asks."""
     draw = rng.random()
     layer_number = rng.randrange(len(zooms))
     some_id = rng.choice([rng.randrange(4), rng.randrange(4), rng.randrange(IDS), IDS - 1])
     if draw < 0.45:
-        most = 2 if len(zooms) > 6 else 3 if len(zooms) > 2 else 5  # there are very many contexts of many links
-        return "ask" + gap(rng) + digits(rng, rng.choice([0, 0, 1, 7])) + " " + query(rng, most, of)
+        return asking_line(rng, command, rng.choice(texts))
     if draw < 0.75:
         return "put" + gap(rng) + digits(rng, layer_number) + gap(rng) + feature(rng, zooms[layer_number], some_id, of)
     if draw < 0.82:
@@ -142,6 +162,7 @@ def ended(rng, lines):
 
 def accepted(rng):
     """A session that is in order, at times with feeds, whatever these give."""
+    command = rng.choice(COMMANDS)
     of = stock(rng)
     layers = rng.choice([1, 1, 2, 2, 3, 3, 4, 6, 16])
     zooms = sorted(rng.choice([0, 1, 4, 6, 8, 16, rng.randrange(17)]) for _ in range(layers))
@@ -150,27 +171,36 @@ def accepted(rng):
     for _ in range(features):
         k = rng.randrange(len(zooms))
         first.append(f"put {k} " + feature(rng, zooms[k], rng.randrange(5 if features < 60 else 60), of))
-    body = first + ["publish"] * rng.choice([0, 1, 1, 1]) + [body_line(rng, zooms, of) for _ in range(rng.choice([0, 1, 5, 20]))]
+    most = 2 if layers > 6 else 3 if layers > 2 else 5  # there are very many contexts of many links
+    texts = [query(rng, most, of) for _ in range(rng.choice([1, 2, 5, 20]))]
+    count = rng.choice([0, 1, 5, 20])
+    body = first + ["publish"] * rng.choice([0, 1, 1, 1]) + [body_line(rng, command, zooms, of, texts) for _ in range(count)]
     given = feeds(rng, zooms, of) if rng.random() < 0.4 else NONE
     for load in given.loads:
         body.insert(rng.randrange(len(first if rng.random() < 0.6 else body) + 1), load)
-    return Thrown(as_bytes(ended(rng, head(rng, zooms) + body)), given.words, given.files, True)
+    return Thrown(as_bytes(ended(rng, head(rng, zooms) + body)), command, given.words, given.files, True)
 
 
-def padded(rng):
+def played(rng):
+    """A session that is in order, with what its searches are told."""
+    lines, told = played_lines(rng)
+    return Thrown(as_bytes(ended(rng, lines)), "replay", [], {}, True, told)
+
+
+def padded(rng, command):
     """A session with a line of about as many bytes as a line may have, and whether it is in order."""
     size = LONGEST + rng.choice([0, 0, 0, 1, 1, 1, -1, 2, -100, 100, 65536])
-    start, stop, before, fill, after = rng.choice(FILLED)
+    start, stop, before, fill, after = rng.choice(FILLED + (FILLED_SEARCHES if command == "replay" else []))
     carriage_return = rng.choice(["", "", "\r"])
     room = size - len(before + after + carriage_return)
     lines = list(SMALL)
-    lines[start:stop] = [before + (fill * room)[:room] + after + carriage_return]
+    lines[start:stop] = [before + (fill * (room // len(fill))).ljust(room) + after + carriage_return]
     if rng.random() < 0.1:
         return "\n".join(lines[: start + 1]), False
     return "\n".join(lines + [""]), size <= LONGEST or start == len(SMALL)
 
 
-def nested(rng):
+def nested(rng, command):
     """A feature or a layer with a member that is nested deep."""
     depth = rng.choice([1, 10, 125, 126, 127, 128, 129, 200, 1000, 10000, 100000])
     opened, closed = rng.choice([("[", "]"), ('{"a":', "}"), ('[{"a":', "}]")])
@@ -182,22 +212,26 @@ def nested(rng):
     city = '{"name":"city","zoom":6}'
     if rng.random() < 0.2:
         city = '{"name":"city","x":%s,"zoom":6}' % inner
-    return "\n".join(["carmen 1", "layer " + city, "put 0 " + put, "publish", "ask 0 york", "end", ""])
+    asks = [asking_line(rng, command, "york") for _ in range(2)]
+    return "\n".join(["carmen 1", "layer " + city, "put 0 " + put, "publish", *asks, "end", ""])
 
 
-def many(rng):
-    """Rounds with as many asks as are allowed, or with one more, and whether the session is in order."""
+def many(rng, command):
+    """Rounds with as many lines that ask as are allowed, or with one more, and whether the session is in order."""
     rounds = [rng.choice([MOST_ASKS - 1, MOST_ASKS, MOST_ASKS, MOST_ASKS + 1]) for _ in range(rng.choice([1, 1, 2]))]
     lines = ["carmen 1", 'layer {"name":"city","zoom":6}']
     lines += ["put 0 " + feature(rng, 6, k, stock(rng)) for k in range(4)] + ["publish"]
     text = rng.choice(["york", "a b", "...", "speed=1 | a"])
     for asks in rounds:
         lanes = rng.sample(range(8), rng.choice([1, 8]))
-        lines += [f"ask {rng.choice(lanes)} {text}" for _ in range(asks)] + ["join"]
+        kinds = [f"ask {lane} {text}" for lane in lanes]
+        if command == "replay":
+            kinds = rng.choice([kinds, []]) + [f"explain {text}", f"replay ;{text}", replay_line(rng, events(rng), text)]
+        lines += [rng.choice(kinds) for _ in range(asks)] + ["join"]
     return "\n".join(lines + ["end", ""]), max(rounds) <= MOST_ASKS
 
 
-def heads(rng):
+def heads(rng, command):
     """Heads with as many layers and languages as are allowed, or with one more, and whether the session is in order."""
     layers = rng.choice([MOST_LAYERS - 1, MOST_LAYERS, MOST_LAYERS, MOST_LAYERS + 1])
     langs = rng.choice([1, MOST_LANGS - 1, MOST_LANGS, MOST_LANGS + 1])
@@ -205,11 +239,11 @@ def heads(rng):
     lines = ["carmen 1", "langs " + " ".join(f"l{k}" for k in range(langs))] + ["layer " + layer(rng, zoom) for zoom in zooms]
     of = stock(rng)
     lines += [f"put {k} " + feature(rng, zoom, k, of) for k, zoom in enumerate(zooms)] + ["publish"]
-    lines += ["ask 0 " + query(rng, 3, of) for _ in range(3)]
+    lines += [asking_line(rng, command, query(rng, 3, of)) for _ in range(3)]
     return ended(rng, lines), layers <= MOST_LAYERS and langs <= MOST_LANGS
 
 
-def heavy(rng):
+def heavy(rng, command):
     """As many features or rows of them as are allowed, and more; the session is in order, whatever is refused."""
     tiles = ",".join(f'"12/{k % 64}/{k // 64}"' for k in range(4096))
     put = 'put 0 {"id":%d,"properties":{"carmen:text":"%s","carmen:zxy":[%s]}}'
@@ -224,7 +258,8 @@ def heavy(rng):
     if rng.random() < 0.1:
         lines = [put % (k, "a", '"12/0/0"') for k in [*range(MOST_FEATURES + 1), 0, IDS - 1]]
         lines += ["drop 0 1", lines[-1]]
-    return "\n".join(["carmen 1", 'layer {"name":"city","zoom":12}'] + lines + ["publish", "ask 0 other", "end", ""])
+    lines += ["publish", asking_line(rng, command, "other"), "end", ""]
+    return "\n".join(["carmen 1", 'layer {"name":"city","zoom":12}'] + lines)
 
 
 def heavy_loads(rng):
@@ -245,9 +280,10 @@ def heavy_loads(rng):
         words, files = ["csv:0"], {"0": rows_file(rows)}
     words, files = words + ["csv:few"], {**files, "few": rows_file([(k, "few", "12/9/9", 3) for k in (1, 2, IDS - 1)])}
     lines = ["load 0 0", "load 1 0", 'put 0 {"id":3,"properties":{"carmen:text":"one","carmen:zxy":["12/0/0"]}}']
-    lines += ["drop 0 1", "publish", "ask 0 few", "ask 0 one"]
+    command = rng.choice(COMMANDS)
+    lines += ["drop 0 1", "publish", asking_line(rng, command, "few"), asking_line(rng, command, "one")]
     text = "\n".join(["carmen 1", 'layer {"name":"city","zoom":12}'] + lines + ["end", ""])
-    return Thrown(as_bytes(text), words, files, True)
+    return Thrown(as_bytes(text), command, words, files, True)
 
 
 def noise(rng):
@@ -298,10 +334,14 @@ def change_json(rng, line):
 
 
 def asked(rng):
-    """An ask of words and signs that no feature is called by."""
+    """A line that asks by words and signs that no feature is called by."""
     words = [rng.choice(WORDS) + rng.choice(SIGNS) for _ in range(rng.choice([0, 1, 5, 19, 20, 21, 60]))]
     options = rng.choice(["", "", "auto=0 |", "box=1/0/0/1/1 |", "auto=0 box=0/0/0/0/0|", "lang=en |"])
-    return f"ask {rng.choice(['0', '1', '7', '8', ''])} {options}" + "".join(words)
+    text = options + "".join(words)
+    draw = rng.random()
+    if draw < 0.4:
+        return f"ask {rng.choice(['0', '1', '7', '8', ''])} {text}"
+    return search_line(rng, text) if draw < 0.7 else broken_line(rng, text)
 
 
 def loaded(rng):
@@ -313,7 +353,7 @@ def change_lines(rng, text):
     """The text with a line doubled, dropped, swapped, put in or changed."""
     lines = text.split("\n")
     at = rng.randrange(len(lines))
-    kind = rng.randrange(9)
+    kind = rng.randrange(11)
     if kind == 0:
         lines.insert(at, lines[at])
     elif kind == 1:
@@ -330,30 +370,53 @@ def change_lines(rng, text):
     elif kind == 6:
         lines[at] = lines[at].replace(" ", rng.choice(["", "  ", "\t", " x "]), rng.choice([1, 1, -1]))
     else:
-        with_json = [k for k, line in enumerate(lines) if line.startswith(("put ", "layer "))]
-        if with_json:
-            chosen = rng.choice(with_json)
-            lines[chosen] = change_json(rng, lines[chosen])
+        words, change = (("put ", "layer "), change_json) if kind < 9 else (("explain ", "replay "), change_search)
+        of_words = [k for k, line in enumerate(lines) if line.startswith(words)]
+        if of_words:
+            chosen = rng.choice(of_words)
+            lines[chosen] = change(rng, lines[chosen])
     return "\n".join(lines)
 
 
+def broken_command(rng, thrown):
+    """The input with a command that is refused, with the other command, or with other words after it."""
+    draw = rng.random()
+    if draw < 0.7 and thrown.words:
+        return thrown._replace(words=broken_words(rng, thrown.words), in_order=False, told=None)
+    return thrown._replace(command=rng.choice(rng.choice([COMMANDS, NO_COMMANDS])), in_order=False, told=None)
+
+
+def spoiled(rng):
+    """A session for `replay` that was in order, with a line that mostly has a fault."""
+    some = accepted(rng) if rng.random() < 0.5 else played(rng)
+    lines = some.session.decode("utf-8").split("\n")
+    line = broken_line(rng, rng.choice(NAMES)) if rng.random() < 0.5 else rng.choice(LINES)
+    lines.insert(rng.randrange(len(lines) // 2, len(lines)), line)
+    return some._replace(session=as_bytes("\n".join(lines)), command="replay", in_order=False, told=None)
+
+
 def mutated(rng, examples):
-    """A session that was in order and is changed by lines, by bytes, or by both; at times the words of its feeds are too."""
-    some = rng.choice(examples) if rng.random() < 0.4 else accepted(rng)
-    text, words = some.session.decode("utf-8"), some.words
-    if words and rng.random() < 0.2:
-        words = broken_words(rng, words)
-    elif rng.random() < 0.7:
+    """A session that was in order and is changed by lines, by bytes, or by both; at times its command or words are too."""
+    draw = rng.random()
+    if draw < 0.3:
+        some = rng.choice(examples)._replace(command=rng.choice(COMMANDS))
+    else:
+        some = accepted(rng) if draw < 0.8 else played(rng)
+    if rng.random() < 0.15:
+        some = broken_command(rng, some)
+    text = some.session.decode("utf-8")
+    if rng.random() < 0.7:
         for _ in range(rng.choice([1, 1, 1, 2, 3])):
             text = change_lines(rng, text)
     raw = as_bytes(text)
-    return Thrown(change_bytes(rng, raw) if rng.random() < 0.4 else raw, words, some.files, False)
+    raw = change_bytes(rng, raw) if rng.random() < 0.4 else raw
+    return some._replace(session=raw, in_order=False, told=None)
 
 
-def alone(made):
+def alone(command, made):
     """A session that has no feeds, and whether it is in order."""
     text, in_order = made
-    return Thrown(as_bytes(text), [], {}, in_order)
+    return Thrown(as_bytes(text), command, [], {}, in_order)
 
 
 def make(seed, index, examples):
@@ -361,13 +424,17 @@ def make(seed, index, examples):
     rng = random.Random(f"{seed}/{index}")
     if index < len(examples):
         return examples[index]
+    command = rng.choice(COMMANDS)
     draw = rng.random()
-    if draw < 0.25:
+    if draw < 0.20:
         return accepted(rng)
     if draw < 0.30:
-        return alone(padded(rng) if draw < 0.27 else many(rng) if draw < 0.28 else heads(rng))
-    if draw < 0.304:
-        return alone((heavy(rng), True)) if draw < 0.302 else heavy_loads(rng)
-    if draw < 0.39:
-        return alone((nested(rng) if draw < 0.33 else noise(rng), False))
-    return mutated(rng, examples)
+        return played(rng)
+    if draw < 0.35:
+        maker = padded if draw < 0.32 else many if draw < 0.33 else heads
+        return alone(command, maker(rng, command))
+    if draw < 0.354:
+        return alone(command, (heavy(rng, command), True)) if draw < 0.352 else heavy_loads(rng)
+    if draw < 0.43:
+        return alone(command, (nested(rng, command) if draw < 0.38 else noise(rng), False))
+    return spoiled(rng) if draw < 0.50 else mutated(rng, examples)
