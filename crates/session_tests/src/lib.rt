@@ -1,15 +1,10 @@
-//! Whole sessions, and runs of the program, over devices in memory.
+//! Whole sessions over devices and feeds that fail, give or take one byte a call, or count. What a session in a file shows is
+//! tried there.
 #![tactic(auto)]
 
 #[cfg(test)]
 mod devices;
 #[cfg(test)]
 mod feeds;
-#[cfg(test)]
-mod replays;
-#[cfg(test)]
-mod rows;
-#[cfg(test)]
-mod runs;
 #[cfg(test)]
 mod sessions;
